@@ -1,0 +1,5 @@
+mod Faults
+mod Netting
+mod Gathering
+mod Writing
+mod Forming

@@ -1,0 +1,6 @@
+// Checks of a line, and its normal form.
+pub mod check;
+mod nets;
+pub mod normal;
+#[cfg(test)]
+mod tests;

@@ -1,0 +1,4 @@
+mod Putting
+mod Feeds
+pub mod Laws
+mod Sheets

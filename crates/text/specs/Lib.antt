@@ -1,0 +1,4 @@
+pub mod Rows
+pub mod Puts
+pub mod Calls
+pub mod Pages
