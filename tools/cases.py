@@ -1,7 +1,7 @@
 #!/usr/bin/env python3
 """An independent translator, and the cases that the program `cases` is held to.
 
-It is written from docs/ alone and shares nothing with the crates. `python3 tools/cases.py crates/cases`
+It follows docs/ and shares no code with the crates. `python3 tools/cases.py crates/cases`
 writes crates/cases/stdin, the schedule files of all cases, and crates/cases/stdout, what this
 translator makes of them. `python3 tools/cases.py translate < FILE` translates one file.
 

@@ -1,7 +1,7 @@
 -- A row of terms that is read one by one: what one term more, or one that is refused, makes of what is left to read.
 use mathlib.Core.Path.{_≡_, refl, ap, sym, _∙_}
 use mathlib.Core.List.{List, [], _∷_, _++_, append-assoc}
-use Prim.Native.Nat.{ℕ, suc, _+_, _-_, _*_, _<_}
+use Prim.Native.Nat.{ℕ, suc, _+_, _-_, _<_}
 use native.Mathlib.Omega.{arith}
 use lib.ListN.{drop}
 use Rattle.std.specs.declared.result.Result.{Result}
@@ -25,15 +25,12 @@ behind-more ts t (Err e) = refl
 one-more : (k at : ℕ) (rest body : List ℕ) (ts : List Term) → record-body TermMark at rest ≡ Ok body → behind ts (read-terms (suc k) at rest) ≡ behind (ts ++ term-in body ∷ []) (read-terms k (at + 8) (drop 8 rest))
 one-more k at rest body ts e = rw e (behind-more ts (term-in body) (read-terms k (at + 8) (drop 8 rest)))
 
-module _ (count at i : ℕ) (rest : List ℕ) (ts : List Term) (more : i < count) where
-  left : behind ts (read-terms (count - i) (at + 8 * i) (drop (8 * i) rest)) ≡ behind ts (read-terms (suc (count - (i + 1))) (at + 8 * i) (drop (8 * i) rest))
+module _ (count at i : ℕ) (input : List ℕ) (ts : List Term) (more : i < count) where
+  left : behind ts (read-terms (count - i) at (drop at input)) ≡ behind ts (read-terms (suc (count - (i + 1))) at (drop at input))
   left = let e : count - i ≡ suc (count - (i + 1)) = omega arith in rw e
 
-  pub term-more : (body : List ℕ) → record-body TermMark (at + 8 * i) (drop (8 * i) rest) ≡ Ok body → behind ts (read-terms (count - i) (at + 8 * i) (drop (8 * i) rest)) ≡ behind (ts ++ term-in body ∷ []) (read-terms (count - (i + 1)) (at + 8 * (i + 1)) (drop (8 * (i + 1)) rest))
-  term-more body e =
-      let a : at + 8 * i + 8 ≡ at + 8 * (i + 1) = omega arith in
-      let d : 8 * i + 8 ≡ 8 * (i + 1) = omega arith in
-      left ∙ one-more (count - (i + 1)) (at + 8 * i) (drop (8 * i) rest) body ts e ∙ rw (drop-drop, a, d)
+  pub term-more : (body : List ℕ) → record-body TermMark at (drop at input) ≡ Ok body → behind ts (read-terms (count - i) at (drop at input)) ≡ behind (ts ++ term-in body ∷ []) (read-terms (count - (i + 1)) (at + 8) (drop (at + 8) input))
+  term-more body e = left ∙ one-more (count - (i + 1)) at (drop at input) body ts e ∙ rw drop-drop
 
-  pub term-refused : (e : FileFault) → record-body TermMark (at + 8 * i) (drop (8 * i) rest) ≡ Err e → behind ts (read-terms (count - i) (at + 8 * i) (drop (8 * i) rest)) ≡ Err e
+  pub term-refused : (e : FileFault) → record-body TermMark at (drop at input) ≡ Err e → behind ts (read-terms (count - i) at (drop at input)) ≡ Err e
   term-refused e r = left ∙ rw r

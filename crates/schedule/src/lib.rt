@@ -3,6 +3,6 @@ mod bodies;
 mod fields;
 pub mod line;
 pub mod mark;
+mod met;
 pub mod reader;
-mod reading;
 pub mod record;
