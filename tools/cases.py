@@ -8,6 +8,7 @@ translator makes of them. `python3 tools/cases.py translate < FILE` translates o
 A case in stdin: the name's length (2 bytes, high byte first), the name, the file's length (2 bytes),
 the file.
 """
+import math
 import random
 import struct
 import sys
@@ -108,6 +109,22 @@ def normal(variables, line):
     return relation == 3, bound, out
 
 
+def tighten(form):
+    exact, bound, terms = form
+    impossible = (False, 1, [])
+    total = sum(w for w, _ in terms)
+    if bound == 0 and (not terms or not exact):
+        return False, 0, []
+    if total < bound:
+        return impossible
+    if not exact:
+        terms = [(min(w, bound), l) for w, l in terms]
+    divisor = math.gcd(*(w for w, _ in terms))
+    if exact and bound % divisor:
+        return impossible
+    return exact, -(-bound // divisor), [(w // divisor, l) for w, l in terms]
+
+
 def least_sets(weights, bound):
     """The sets of places, by rising mask, that no assignment meeting the bound can all miss, none to spare."""
     n = len(weights)
@@ -132,7 +149,7 @@ def translate(data):
         variables, lines = read(data[:INPUT])
         text, count = "", 0
         for number, line in enumerate(lines, 1):
-            form = normal(variables, line)
+            form = tighten(normal(variables, line))
             if len(form[2]) > REACH:
                 refuse(10, "book", number, 0)
             clauses = direct(form)
@@ -203,6 +220,13 @@ def forms():
     yield "both signs of a variable", ch(2) + ln(2, 2, [(3, 1), (2, -1), (1, 2)]) + EN
     yield "cancelled to nothing", ch(1) + ln(1, 1, [(1, 1), (1, -1)]) + EN
     yield "exactly below 0", ch(1) + ln(3, -1, [(1, 1)]) + EN
+    yield "weights with a divisor", ch(3) + ln(1, 9, [(6, 1), (4, 2), (4, 3)]) + EN
+    yield "a divisor that does not divide", ch(2) + ln(3, 5, [(6, 1), (4, 2)]) + EN
+    yield "a divisor that divides", ch(2) + ln(3, 4, [(6, 1), (4, 2)]) + EN
+    yield "a weight above the bound", ch(3) + ln(1, 2, [(9, 1), (1, 2), (1, 3)]) + EN
+    yield "a weight above an exact bound", ch(2) + ln(3, 2, [(3, 1), (1, 2)]) + EN
+    yield "13 terms that everything meets", ch(13) + ln(1, 0, [(1, v) for v in range(1, 14)]) + EN
+    yield "13 terms that nothing meets", ch(13) + ln(1, 14, [(1, v) for v in range(1, 14)]) + EN
     yield "exactly, sum below the bound", ch(2) + ln(3, 9, [(1, 1), (1, 2)]) + EN
     yield "exactly 0", ch(2) + ln(3, 0, [(1, 1), (1, 2)]) + EN
     yield "exactly all", ch(2) + ln(3, 2, [(1, 1), (1, 2)]) + EN

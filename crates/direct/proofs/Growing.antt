@@ -18,7 +18,8 @@ use Rattle.pb.specs.declared.working.Weighted.{Weighted}
 use Rattle.text.specs.Rows.{Clause, Page, grown, fits}
 use Rattle.text.specs.Calls.{Gave, NotGiven, WasCut, NotCut, Whole, first-rows}
 use Rattle.text.proofs.Laws.{grown-grown, fits-more, fits-front, cut-back-page}
-use Rattle.direct.specs.Lists.{least, chosen, listed-from, listed, direct-list, weight-sum}
+use Rattle.pb.specs.Sums.{weight-sum}
+use Rattle.direct.specs.Lists.{least, chosen, listed-from, listed, direct-list}
 use Rattle.direct.specs.Encoding.{Took, Stopped, Gives}
 
 -- what does not fit does not with more after it

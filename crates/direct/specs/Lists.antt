@@ -9,17 +9,13 @@ use lib.ListN.{length}
 use Rattle.pb.specs.declared.working.Sense.{Sense}
 use Rattle.pb.specs.declared.working.Sense.the-variants.{AtLeast, Exactly}
 use Rattle.pb.specs.declared.working.Weighted.{Weighted}
-use Rattle.pb.specs.Lines.{Working}
+use Rattle.pb.specs.Sums.{weight-sum}
 
 -- whether the first term is in the set
 abbrev pub has-first : ℕ → Bool
 has-first mask = eqb (mask % 2) 1
 
--- the sum of all weights, and of the weights outside a set
-abbrev pub weight-sum : List Weighted → ℕ
-weight-sum [] = 0
-weight-sum (t ∷ ts) = t .weight + weight-sum ts
-
+-- the sum of the weights outside a set
 abbrev pub outside : List Weighted → ℕ → ℕ
 outside [] mask = 0
 outside (t ∷ ts) mask = cond (has-first mask) 0 (t .weight) + outside ts (mask / 2)

@@ -2,7 +2,8 @@
 ghost use mathlib.Core.Path.{_≡_};
 ghost use Prim.Native.Nat.{_^_, _<_, _≤_};
 ghost use lib.ListN.{length, take};
-ghost use Rattle.direct.specs.Lists.{weight-sum, outside, each-lifts, least, flipped, chosen};
+ghost use Rattle.pb.specs.Sums.{weight-sum};
+ghost use Rattle.direct.specs.Lists.{outside, each-lifts, least, flipped, chosen};
 use pb::working::Weighted;
 
 // A line of so many terms has few enough sets to try each.

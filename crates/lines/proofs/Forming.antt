@@ -1,32 +1,28 @@
 -- The normal form of a line, from a table of its net weights.
-use mathlib.Core.Path.{_≡_, refl, sym, _∙_, ap}
+use mathlib.Core.Path.{_≡_, refl, sym, _∙_, ap, subst}
 use mathlib.Core.Bool.{Bool}
 use mathlib.Core.List.{List}
 use Prim.Native.Nat.{ℕ, _+_, _<_, _≤_}
 use native.Mathlib.Omega.{arith}
 use lib.IntN.{ℤ, pos, _+ℤ_, _-ℤ_, natAbs}
-use lib.ListN.{length}
+use lib.ListN.{length, drop}
 use Rattle.std.specs.declared.option.Option.the-variants.{None}
-use Rattle.std.proofs.shelf.Signed.{ints}
 use Rattle.std.proofs.shelf.Tests.{le-leb}
-use Rattle.pb.specs.declared.relation.Relation.{Relation}
-use Rattle.pb.specs.declared.relation.Relation.the-variants.{AtLeast, AtMost, Exactly, MoreThan, LessThan}
 use Rattle.pb.specs.declared.working.Sense.{Sense}
 use Rattle.pb.specs.declared.working.Weighted.{Weighted}
-use Rattle.pb.specs.Lines.{Line, Working, impossible-line}
+use Rattle.pb.specs.Lines.{Line, Working, impossible-line, line-in}
 use Rattle.pb.specs.Checks.{line-check, Sound}
 use Rattle.pb.specs.Normal.{sense-of, negated, threshold, net, lowered, gathered, raised, floored, normal}
+use Rattle.pb.specs.Meaning.{met}
+use Rattle.pb.specs.Proper.{Proper}
+use Rattle.pb.proofs.Gathered.{gathered-same, raised-same, gathered-few}
+use Rattle.pb.proofs.Keeping.{normal-keeps}
+use Rattle.pb.proofs.Normalizing.{normal-proper}
+use Rattle.pb.specs.declared.working.Head.{Head}
 use Rattle.lines.specs.Nets.{at, Nets-of}
-use Rattle.lines.proofs.Gathering.{gathered-same, raised-same, gathered-few}
+use Rattle.lines.specs.Forms.{Formed}
 
-pub threshold-within : (r : Relation) (b : ℤ) → natAbs b ≤ 1000000 → natAbs (threshold r b) ≤ 1000001
-threshold-within AtLeast b h = omega arith
-threshold-within AtMost b h = omega (arith, ints)
-threshold-within Exactly b h = omega arith
-threshold-within MoreThan b h = omega (arith, ints)
-threshold-within LessThan b h = omega (arith, ints)
-
-pub checked-from-sound : (n : ℕ) (l : Line) → Sound n l → line-check n l ≡ None
+checked-from-sound : (n : ℕ) (l : Line) → Sound n l → line-check n l ≡ None
 checked-from-sound n l h =
     let bounded = le-leb (natAbs (l .bound)) 1000000 (h .bounded) in
     let few = le-leb (length (l .terms)) 64 (h .few) in
@@ -54,3 +50,15 @@ module _ (n : ℕ) (l : Line) (b : Bool) (table : List ℤ) (known : n ≤ 256) 
 
   pub normal-unmet : (s : Sense) (z : ℤ) → ((ts : List Weighted) → floored s z ts ≡ impossible-line) → s ≡ sense-of (l .relation) → z ≡ (threshold (l .relation) (l .bound) -ℤ lowered b (l .terms)) +ℤ pos (raised n 1 (at table)) → normal n l ≡ impossible-line
   normal-unmet s z h d e = normal-from s z d e ∙ h (gathered n 1 (at table))
+
+-- what else an answer says follows from its being the normal form
+pub formed : (n : ℕ) (l : Line) (f : Head) (before after : List Weighted) → Sound n l → normal n l ≡ line-in f after → f .count ≤ length (l .terms) → drop (f .count) after ≡ drop (f .count) before → Formed n l f before after
+formed n l f before after s e few beyond =
+    record {
+      sound = checked-from-sound n l s;
+      form-is = e;
+      meaning = λ a. ap (met a) (sym e) ∙ normal-keeps n l s a;
+      proper = subst (Proper n) e (normal-proper n l s .0);
+      few = few;
+      beyond = beyond;
+    }

@@ -7,21 +7,22 @@ use lib.ListN.{length, take, drop}
 use Rattle.std.specs.declared.option.Option.{Option}
 use Rattle.std.specs.declared.option.Option.the-variants.{Some, None}
 use Rattle.fault.specs.declared.line.LineFault.{LineFault}
+use Rattle.pb.specs.declared.working.Head.{Head}
 use Rattle.pb.specs.declared.working.Sense.{Sense}
 use Rattle.pb.specs.declared.working.Weighted.{Weighted}
-use Rattle.pb.specs.Lines.{Line, Working, impossible-line}
+use Rattle.pb.specs.Lines.{Line, Working, impossible-line, line-in}
 use Rattle.pb.specs.Checks.{line-check}
 use Rattle.pb.specs.Normal.{normal, floored}
-use Rattle.lines.specs.declared.normal.NormalForm.{NormalForm}
+use Rattle.pb.specs.Meaning.{Assignment, meets, met}
+use Rattle.pb.specs.Proper.{Proper}
 
--- the working line of an answer and the table that its terms stand in
-abbrev pub working-of : NormalForm → List Weighted → Working
-working-of f table = record { sense = f .sense; bound = f .bound; terms = take (f .count) table }
-
--- the answer to a line that nothing is wrong with: its normal form, and past the terms the table as it was
-pub record Formed (n : ℕ) (l : Line) (f : NormalForm) (before after : List Weighted) : Type 0 where
+-- the answer to a line that nothing is wrong with: its normal form, which is proper and met by just the assignments that
+-- meet the line, and past the terms the table as it was
+pub record Formed (n : ℕ) (l : Line) (f : Head) (before after : List Weighted) : Type 0 where
   pub sound : line-check n l ≡ None
-  pub form-is : normal n l ≡ working-of f after
+  pub form-is : normal n l ≡ line-in f after
+  pub meaning : (a : Assignment) → met a (line-in f after) ≡ meets a l
+  pub proper : Proper n (line-in f after)
   pub few : f .count ≤ length (l .terms)
   pub beyond : drop (f .count) after ≡ drop (f .count) before
 

@@ -12,10 +12,6 @@ use Rattle.pb.specs.Normal.{net}
 abbrev pub at : List ℤ → ℕ → ℤ
 at table v = getD table v (pos 0)
 
--- a term for which there is a place, and whose weight is small
-abbrev pub Fair : Term → Type 0
-Fair t = (natAbs (t .literal) ≤ 256) × (natAbs (t .weight) ≤ 10000)
-
 -- a table of the net weights of the terms
 abbrev pub Nets-of : Bool → List Term → List ℤ → Type 0
 Nets-of b ts table = (v : ℕ) → v ≤ 256 → at table v ≡ net b ts v

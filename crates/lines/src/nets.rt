@@ -5,8 +5,9 @@ ghost use Prim.Native.Nat.{ℕ, _≤_};
 ghost use lib.IntN.{pos, natAbs, _+ℤ_};
 ghost use lib.ListN.{length, take, drop, replicate};
 ghost use Rattle.std.specs.shelf.Lists.{All};
+ghost use Rattle.pb.specs.Checks.{Fair};
 ghost use Rattle.pb.specs.Normal.{weight-under, share, lowering, lowered, raise-of, raised, term-of, gathered};
-ghost use Rattle.lines.specs.Nets.{at, Fair, Nets-of, Within};
+ghost use Rattle.lines.specs.Nets.{at, Nets-of, Within};
 use pb::term::Term;
 use pb::variables::Variables;
 use pb::working::Weighted;
@@ -15,7 +16,7 @@ use pb::working::Weighted;
 // complements lower the bound.
 pub(crate) fn fill(negate: bool, terms: &[Term], nets: &mut [i32; 257]) -> i32
     requires few { ⌜ length (now terms) ≤ 64 ⌝ }
-    requires fair { ⌜ All Fair (now terms) ⌝ }
+    requires fair { ⌜ All (Fair 256) (now terms) ⌝ }
     requires blank { ⌜ now nets ≡ replicate 257 (pos 0) ⌝ }
     ensures sum { λ r. ⌜ r ≡ lowered negate (now (terms .entry)) ⌝ }
     ensures table { λ r. ⌜ Nets-of negate (now (terms .entry)) (now (nets .exit)) ⌝ }
@@ -29,7 +30,7 @@ pub(crate) fn fill(negate: bool, terms: &[Term], nets: &mut [i32; 257]) -> i32
 
 // A weight on a complement is one of the opposite sign on the variable, and lowers the bound.
 fn add_term(negate: bool, term: Term, nets: &mut [i32; 257]) -> i32
-    requires fair { ⌜ Fair term ⌝ }
+    requires fair { ⌜ Fair 256 term ⌝ }
     requires within { ⌜ Within 1280000 (now nets) ⌝ }
     ensures sum { λ r. ⌜ r ≡ lowering (term .literal) (weight-under negate term) ⌝ }
     ensures table { λ _. ⌜ ((v : ℕ) → at (now (nets .exit)) v ≡ at (now (nets .entry)) v +ℤ share v (term .literal) (weight-under negate term)) ⌝ }

@@ -14,16 +14,9 @@ use fault::line::LineFault;
 use pb::relation::Relation;
 use pb::term::Term;
 use pb::variables::Variables;
+use pb::working::Head;
 use pb::working::Sense;
 use pb::working::Weighted;
-
-// A normal form, but for its terms: they are the first `count` of the table that was lent for them.
-#[derive(Clone, Copy)]
-pub struct NormalForm {
-    pub sense: Sense,
-    pub bound: u32,
-    pub count: usize,
-}
 
 // Checks a line and writes the terms of its normal form into the table.
 pub fn normal_form(
@@ -32,7 +25,7 @@ pub fn normal_form(
     bound: i32,
     terms: &[Term],
     form: &mut [Weighted; 64],
-) -> Result<NormalForm, LineFault>
+) -> Result<Head, LineFault>
     ensures { λ r. ⌜ Cases r
         (λ f. Formed (variables .count) (record { relation = relation; bound = bound; terms = now (terms .entry) }) f (now (form .entry)) (now (form .exit)))
         (λ e. Refused (variables .count) (record { relation = relation; bound = bound; terms = now (terms .entry) }) e (now (form .entry)) (now (form .exit))) ⌝ }
@@ -49,7 +42,7 @@ fn form_of(
     bound: i32,
     terms: &[Term],
     form: &mut [Weighted; 64],
-) -> NormalForm
+) -> Head
     requires { ⌜ Sound (variables .count) (record { relation = relation; bound = bound; terms = now terms }) ⌝ }
     ensures { λ r. ⌜ Formed (variables .count) (record { relation = relation; bound = bound; terms = now (terms .entry) }) r (now (form .entry)) (now (form .exit)) ⌝ }
 {
@@ -59,14 +52,14 @@ fn form_of(
     let sense = sense_from(relation);
     let Some(bound) = floor(sense, bound_from(relation, bound) - lowered + raised as i32) else {
         // without terms, at least 1 is met by no assignment
-        return NormalForm {
+        return Head {
             sense: Sense::AtLeast,
             bound: 1,
             count: 0,
         };
     };
     let count = nets::gather(variables, &nets, form);
-    NormalForm {
+    Head {
         sense,
         bound,
         count,

@@ -1,8 +1,8 @@
-use crate::normal::NormalForm;
 use crate::normal::normal_form;
 use pb::relation::Relation;
 use pb::term::Term;
 use pb::variables::Variables;
+use pb::working::Head;
 use pb::working::Sense;
 use pb::working::SenseDebug;
 use pb::working::SensePartialEq;
@@ -17,11 +17,7 @@ const BLANK: Weighted = Weighted {
 };
 
 // The normal form of a line over two variables, with the table that its terms stand in.
-fn formed(
-    relation: Relation,
-    bound: i32,
-    terms: &[Term],
-) -> Result<(NormalForm, [Weighted; 64]), Fail> {
+fn formed(relation: Relation, bound: i32, terms: &[Term]) -> Result<(Head, [Weighted; 64]), Fail> {
     let Ok(variables) = Variables::new(2) else {
         return Err(Fail::new("two variables are refused"));
     };

@@ -3,7 +3,7 @@
 use mathlib.Core.Path.{_≡_}
 use mathlib.Core.Bool.{Bool, true, false, cond, _&&_}
 use mathlib.Core.List.{List, [], _∷_}
-use Prim.Native.Nat.{ℕ, suc, _+_, _≤_}
+use Prim.Native.Nat.{ℕ, suc, _+_, _<_, _≤_}
 use lib.Dec.{leb, ltb, eqb}
 use lib.IntN.{ℤ, natAbs}
 use lib.ListN.{length}
@@ -63,3 +63,7 @@ pub record Sound (n : ℕ) (l : Line) : Type 0 where
   pub bounded : natAbs (l .bound) ≤ 1000000
   pub few : length (l .terms) ≤ 64
   pub fine : terms-fault n 1 (l .terms) ≡ None
+
+-- a term of one of the variables 1 to n, of a weight in range
+abbrev pub Fair : ℕ → Term → Type 0
+Fair n t = (0 < natAbs (t .literal)) × (natAbs (t .literal) ≤ n) × (natAbs (t .weight) ≤ 10000)

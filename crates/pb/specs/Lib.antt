@@ -1,3 +1,10 @@
 pub mod Lines
 pub mod Checks
 pub mod Normal
+pub mod Meaning
+pub mod Sums
+pub mod Proper
+pub mod Tightened
+pub mod Settled
+pub mod Laws
+pub mod Worked

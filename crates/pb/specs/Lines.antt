@@ -2,8 +2,10 @@
 use mathlib.Core.List.{List, []}
 use Prim.Native.Nat.{ℕ}
 use lib.IntN.{ℤ}
+use lib.ListN.{take}
 use Rattle.pb.specs.declared.relation.Relation.{Relation}
 use Rattle.pb.specs.declared.term.Term.{Term}
+use Rattle.pb.specs.declared.working.Head.{Head}
 use Rattle.pb.specs.declared.working.Sense.{Sense}
 use Rattle.pb.specs.declared.working.Sense.the-variants.{AtLeast}
 use Rattle.pb.specs.declared.working.Weighted.{Weighted}
@@ -26,3 +28,7 @@ empty-line = record { sense = AtLeast; bound = 0; terms = [] }
 
 abbrev pub impossible-line : Working
 impossible-line = record { sense = AtLeast; bound = 1; terms = [] }
+
+-- a head and the table that its terms stand in, as a line
+abbrev pub line-in : Head → List Weighted → Working
+line-in h table = record { sense = h .sense; bound = h .bound; terms = take (h .count) table }

@@ -22,3 +22,11 @@ pub struct WorkingLine<'a> {
     pub bound: u32,
     pub terms: &'a [Weighted],
 }
+
+// A working line but for its terms, which are the first `count` of a lent table.
+#[derive(Clone, Copy)]
+pub struct Head {
+    pub sense: Sense,
+    pub bound: u32,
+    pub count: usize,
+}

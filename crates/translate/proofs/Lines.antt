@@ -24,15 +24,14 @@ use Rattle.pb.specs.declared.relation.Relation.{Relation}
 use Rattle.pb.specs.declared.term.Term.{Term}
 use Rattle.pb.specs.Lines.{Line}
 use Rattle.pb.specs.Checks.{checked-head, checked-relation, relation-of, sized, terms-fault, line-check}
-use Rattle.pb.specs.Normal.{normal}
 use Rattle.schedule.specs.Records.{line-body, record-body, relation-in, bound-in, terms-in, term-in}
 use Rattle.schedule.specs.Reading.{then, head-or-fault, read-terms, read-line, read-line-of, read-line-with, next-line, judged, line-or-fault, line-fault, read-lines, more-lines, no-more-lines, line-size}
 use Rattle.text.specs.Rows.{Page}
-use Rattle.translate.specs.Translation.{write-form, write-lines}
+use Rattle.translate.specs.Translation.{working-form, write-form, write-lines}
 use Rattle.translate.specs.Streaming.{outcome}
 
 -- writing is as good as delayed until the rest is read
-pub outcome-more : (n k : ℕ) (st : Result Page Refusal) (l : Line) (r : Result (List Line) FileFault) → outcome n k st (then r (λ ls. Ok (l ∷ ls))) ≡ outcome n (suc k) (then st (λ p. write-form k p (normal n l))) r
+pub outcome-more : (n k : ℕ) (st : Result Page Refusal) (l : Line) (r : Result (List Line) FileFault) → outcome n k st (then r (λ ls. Ok (l ∷ ls))) ≡ outcome n (suc k) (then st (λ p. write-form k p (working-form n l))) r
 outcome-more n k (Ok p) l (Ok ls) = refl
 outcome-more n k (Err e) l (Ok ls) = refl
 outcome-more n k (Ok p) l (Err e) = refl

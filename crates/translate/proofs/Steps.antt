@@ -22,29 +22,28 @@ use Rattle.fault.specs.declared.refusal.Refusal.{Refusal}
 use Rattle.fault.specs.Refusals.{file-refusal}
 use Rattle.pb.specs.Lines.{Line, Working}
 use Rattle.pb.specs.Checks.{line-check}
-use Rattle.pb.specs.Normal.{normal}
 use Rattle.schedule.specs.Reading.{then, fault-offset, read-line, read-lines, line-size, read-variables, Schedule, read-schedule}
 use Rattle.schedule.proofs.RoundTrip.{reads-back}
 use Rattle.text.specs.Rows.{Page, grown}
 use Rattle.text.proofs.Laws.{grown-grown}
 use Rattle.translate.specs.declared.run.Run.{Run}
-use Rattle.translate.specs.Translation.{write-form, write-lines, Translated, write-schedule, or-refusal, translation, Of-schedules}
+use Rattle.translate.specs.Translation.{working-form, write-form, write-lines, Translated, write-schedule, or-refusal, translation, Of-schedules}
 use Rattle.translate.specs.Streaming.{written, outcome, coming, Goes-on, Ends-with, Grew}
 use Rattle.translate.specs.Entering.{NotEntered}
 use Rattle.translate.proofs.Lines.{outcome-more, lines-end, lines-fault, terms-stop, lines-taken, lines-full}
 
 -- the line is entered, and written where writing goes on
-taken : (n : ℕ) (run : Run) (p : Page) (l : Line) (at : ℕ) (rest : List ℕ) → read-line at rest ≡ Ok (Some l) → line-check n l ≡ None → run .held < 24 → length (l .terms) ≤ run .free → coming n run p at rest ≡ outcome n (suc (run .held + 1)) (then (written (run .refused) p) (λ q. write-form (run .held + 1) q (normal n l))) (read-lines (24 - (run .held + 1)) (run .free - length (l .terms)) n (run .held + 1) (at + line-size l) (drop (line-size l) rest))
+taken : (n : ℕ) (run : Run) (p : Page) (l : Line) (at : ℕ) (rest : List ℕ) → read-line at rest ≡ Ok (Some l) → line-check n l ≡ None → run .held < 24 → length (l .terms) ≤ run .free → coming n run p at rest ≡ outcome n (suc (run .held + 1)) (then (written (run .refused) p) (λ q. write-form (run .held + 1) q (working-form n l))) (read-lines (24 - (run .held + 1)) (run .free - length (l .terms)) n (run .held + 1) (at + line-size l) (drop (line-size l) rest))
 taken n run p l at rest h fine line-free terms-free =
     let free : 24 - run .held ≡ suc (24 - (run .held + 1)) = omega arith in
     let next : suc (run .held) ≡ run .held + 1 = omega arith in
     ap (λ f. outcome n (suc (run .held)) (written (run .refused) p) (read-lines f (run .free) n (run .held) at rest)) free
     ∙ ap (outcome n (suc (run .held)) (written (run .refused) p)) (lines-taken (24 - (run .held + 1)) (run .free) n (run .held) at rest l h fine terms-free)
     ∙ outcome-more n (suc (run .held)) (written (run .refused) p) l (read-lines (24 - (run .held + 1)) (run .free - length (l .terms)) n (suc (run .held)) (at + line-size l) (drop (line-size l) rest))
-    ∙ ap (λ k. outcome n (suc k) (then (written (run .refused) p) (λ q. write-form k q (normal n l))) (read-lines (24 - (run .held + 1)) (run .free - length (l .terms)) n k (at + line-size l) (drop (line-size l) rest))) next
+    ∙ ap (λ k. outcome n (suc k) (then (written (run .refused) p) (λ q. write-form k q (working-form n l))) (read-lines (24 - (run .held + 1)) (run .free - length (l .terms)) n k (at + line-size l) (drop (line-size l) rest))) next
 
 -- the run after a line of so many terms
-pub goes-on : (n : ℕ) (run : Run) (p q : Page) (l : Line) (at terms : ℕ) (refused : Option Refusal) → line-check n l ≡ None → run .held < 24 → length (l .terms) ≤ run .free → terms ≡ length (l .terms) → then (written (run .refused) p) (λ r. write-form (run .held + 1) r (normal n l)) ≡ written refused q → Goes-on n run p (record { held = run .held + 1; free = run .free - terms; refused = refused }) q at l
+pub goes-on : (n : ℕ) (run : Run) (p q : Page) (l : Line) (at terms : ℕ) (refused : Option Refusal) → line-check n l ≡ None → run .held < 24 → length (l .terms) ≤ run .free → terms ≡ length (l .terms) → then (written (run .refused) p) (λ r. write-form (run .held + 1) r (working-form n l)) ≡ written refused q → Goes-on n run p (record { held = run .held + 1; free = run .free - terms; refused = refused }) q at l
 goes-on n run p q l at terms refused fine line-free terms-free many wrote rest h =
     taken n run p l at rest h fine line-free terms-free
     ∙ ap (λ s. outcome n (suc (run .held + 1)) s (read-lines (24 - (run .held + 1)) (run .free - length (l .terms)) n (run .held + 1) (at + line-size l) (drop (line-size l) rest))) wrote

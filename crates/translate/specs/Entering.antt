@@ -9,20 +9,20 @@ use Rattle.fault.specs.declared.book.BookFault.the-variants.{Full}
 use Rattle.fault.specs.declared.file.FileFault.{FileFault}
 use Rattle.fault.specs.declared.file.FileFault.the-variants.{Line as LineAt, Book as BookAt}
 use Rattle.fault.specs.declared.line.LineFault.{LineFault}
-use Rattle.lines.specs.declared.normal.NormalForm.{NormalForm}
+use Rattle.pb.specs.declared.working.Head.{Head}
 use Rattle.pb.specs.declared.working.Weighted.{Weighted}
-use Rattle.pb.specs.Lines.{Line}
+use Rattle.pb.specs.Lines.{Line, line-in}
 use Rattle.pb.specs.Checks.{line-check}
 use Rattle.pb.specs.Normal.{normal}
 use Rattle.schedule.specs.Reading.{fault-offset}
 use Rattle.translate.specs.declared.run.Run.{Run}
 
 -- nothing is wrong with the line, the book has room for it, and this is its normal form
-pub record Entered (n : ℕ) (l : Line) (run : Run) (f : NormalForm) (form : List Weighted) : Type 0 where
+pub record Entered (n : ℕ) (l : Line) (run : Run) (f : Head) (form : List Weighted) : Type 0 where
   pub fine : line-check n l ≡ None
   pub line-free : run .held < 24
   pub terms-free : length (l .terms) ≤ run .free
-  pub normal-form : normal n l ≡ record { sense = f .sense; bound = f .bound; terms = take (f .count) form }
+  pub normal-form : normal n l ≡ line-in f form
   pub size : length form ≡ 64
   pub few : f .count ≤ 64
 

@@ -1,5 +1,5 @@
 -- From the bytes of a schedule file to a page of clause text: the whole file is read first, then each line is written,
--- in order, by the direct encoder from its normal form.
+-- in order, by the direct encoder from its normal form, tightened.
 use mathlib.Core.Path.{_≡_}
 use mathlib.Core.Bool.{cond}
 use mathlib.Core.List.{List, [], _∷_}
@@ -11,13 +11,21 @@ use Rattle.fault.specs.declared.sheet.SheetFault.the-variants.{Full}
 use Rattle.fault.specs.declared.file.FileFault.{FileFault}
 use Rattle.fault.specs.declared.refusal.Refusal.{Refusal}
 use Rattle.fault.specs.Refusals.{book-refusal, sheet-refusal, file-refusal}
+use Rattle.pb.specs.Checks.{Sound}
 use Rattle.pb.specs.Lines.{Line, Working}
+use Rattle.pb.specs.Meaning.{Assignment, meets, met}
 use Rattle.pb.specs.Normal.{normal}
+use Rattle.pb.specs.Proper.{Proper}
+use Rattle.pb.specs.Tightened.{tightened}
 use Rattle.direct.specs.Lists.{direct-list, direct-reach}
 use Rattle.schedule.specs.Reading.{then, Schedule, read-schedule}
 use Rattle.schedule.specs.Writing.{Takes, file-of}
 use Rattle.text.specs.Rows.{Clause, Page, grown, fits}
 use Rattle.translate.specs.declared.header.Header.{Header}
+
+-- the working form in which a line of a job of n variables is written
+abbrev pub working-form : ℕ → Line → Working
+working-form n l = tightened (normal n l)
 
 -- the clauses of a working line
 abbrev pub clauses-of : Working → List Clause
@@ -33,7 +41,7 @@ write-form number p w =
 -- lines of a job of n variables, of which the first has this number, written one after the other
 abbrev pub write-lines : ℕ → ℕ → Page → List Line → Result Page Refusal
 write-lines n number p [] = Ok p
-write-lines n number p (l ∷ ls) = then (write-form number p (normal n l)) (λ q. write-lines n (suc number) q ls)
+write-lines n number p (l ∷ ls) = then (write-form number p (working-form n l)) (λ q. write-lines n (suc number) q ls)
 
 -- how many variables a translated file has, and the page that its clauses were written to
 pub record Translated : Type 0 where
@@ -64,3 +72,7 @@ pub record Undone (input : List ℕ) (p q : Page) (e : Refusal) : Type 0 where
 -- the file of a schedule gives the clauses of just that schedule
 abbrev pub Of-schedules : List ℕ → Page → Type 0
 Of-schedules input p = (s : Schedule) → Takes 24 512 s → input ≡ file-of s → translation p input ≡ write-schedule p s
+
+-- the form that a line is written in is met by just the assignments that meet the line
+abbrev pub Forms-keep : Type 0
+Forms-keep = (n : ℕ) (l : Line) → Sound n l → Proper n (working-form n l) × ((a : Assignment) → met a (working-form n l) ≡ meets a l)

@@ -6,7 +6,7 @@ ghost use Rattle.std.specs.Results.{Cases};
 ghost use Rattle.std.specs.declared.result.Result.the-variants.{Ok, Err};
 ghost use Rattle.std.specs.declared.option.Option.the-variants.{None};
 ghost use Rattle.text.specs.Pages.{page-of};
-ghost use Rattle.translate.specs.Translation.{translation, Done, Undone, Of-schedules};
+ghost use Rattle.translate.specs.Translation.{translation, Done, Undone, Of-schedules, Forms-keep};
 ghost use Rattle.translate.specs.Streaming.{coming, Grew};
 use fault::refusal::Refusal;
 use fault::tell::RefusalFromFile;
@@ -67,6 +67,7 @@ fn write_file(input: &[u8], sheet: &mut TextSheet<'_>) -> Result<Header, Refusal
 pub fn translate(input: &[u8], sheet: &mut TextSheet<'_>) -> Result<Header, Refusal>
     ensures cases { λ r. ⌜ Cases r (λ h. Done (now (input .entry)) (page-of (now (sheet .entry))) (page-of (now (sheet .exit))) h) (λ e. Undone (now (input .entry)) (page-of (now (sheet .entry))) (page-of (now (sheet .exit))) e) ⌝ }
     ensures reads { λ _. ⌜ Of-schedules (now (input .entry)) (page-of (now (sheet .entry))) ⌝ }
+    ensures forms { λ _. ⌜ Forms-keep ⌝ }
 {
     let before = sheet.count();
     match write_file(input, sheet) {

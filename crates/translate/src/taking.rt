@@ -6,8 +6,8 @@ ghost use lib.ListN.{length, take};
 ghost use Rattle.std.specs.Results.{Cases};
 ghost use Rattle.std.specs.declared.result.Result.the-variants.{Ok, Err};
 ghost use Rattle.direct.specs.Lists.{direct-list};
-ghost use Rattle.pb.specs.Checks.{line-check};
-ghost use Rattle.pb.specs.Normal.{normal};
+ghost use Rattle.pb.specs.Lines.{line-in};
+ghost use Rattle.pb.specs.Tightened.{tightened};
 ghost use Rattle.schedule.specs.Held.{line-of};
 ghost use Rattle.schedule.specs.Reading.{fault-offset, line-size};
 ghost use Rattle.text.specs.Pages.{page-of};
@@ -24,12 +24,13 @@ use fault::line::LineFault;
 use fault::refusal::Refusal;
 use fault::tell::FileFromBook;
 use fault::tell::FileFromLine;
-use lines::normal::NormalForm;
 use lines::normal::normal_form;
 use pb::variables::Variables;
+use pb::working::Head;
 use pb::working::Weighted;
 use pb::working::WorkingLine;
 use schedule::line::LineRecord;
+use simplify::tightening::tighten;
 use text::sheet::TextSheet;
 
 const LINES: usize = 24;
@@ -51,7 +52,7 @@ fn enter(
     line: &LineRecord,
     run: Run,
     form: &mut [Weighted; 64],
-) -> Result<NormalForm, FileFault>
+) -> Result<Head, FileFault>
     requires { ⌜ now line .offset + line-size (line-of (now line)) < 2 ^ 64 ⌝ }
     ensures { λ r. ⌜ Cases r (λ f. Entered (variables .count) (line-of (now (line .entry))) run f (now (form .exit))) (λ e. NotEntered (variables .count) (line-of (now (line .entry))) (now (line .entry) .offset) run e) ⌝ }
 {
@@ -70,6 +71,15 @@ fn enter(
         }));
     }
     Ok(normal)
+}
+
+// Tightens the line whose terms stand in the table.
+fn tighten_in(line: Head, form: &mut [Weighted; 64]) -> Head
+    requires { ⌜ line .count ≤ 64 ⌝ }
+    ensures { λ r. ⌜ (tightened (line-in line (now (form .entry))) ≡ line-in r (now (form .exit))) × (r .count ≤ 64) ⌝ }
+{
+    let count = line.count;
+    tighten(line.sense, line.bound, &mut form[0..count])
 }
 
 // Writes the line of this number, or leaves the sheet.
@@ -107,11 +117,11 @@ pub(crate) fn take_line(
     run.held += 1;
     run.free -= line.terms().len();
     if run.refused.is_none() {
-        let NormalForm {
+        let Head {
             sense,
             bound,
             count,
-        } = normal;
+        } = tighten_in(normal, &mut form);
         let terms = &form[0..count];
         let working = WorkingLine {
             sense,

@@ -1,7 +1,7 @@
 -- Each turn moves one weight from what is left to the sum.
 use native.Mathlib.Omega.{arith}
 use Rattle.std.proofs.shelf.Lists.{at-drop-all}
-use Rattle.direct.specs.Lists.{weight-sum}
+use Rattle.pb.specs.Sums.{weight-sum}
 use Rattle.direct.proofs.Turns.{weight-sum-more}
 use Rattle.direct.proofs.sets.sum_of.Needs as need
 

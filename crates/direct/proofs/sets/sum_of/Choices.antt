@@ -2,7 +2,7 @@
 use Prim.Native.Nat.{_+_, _*_, _≤_}
 use mathlib.Core.Path.{_≡_}
 use lib.ListN.{drop}
-use Rattle.direct.specs.Lists.{weight-sum}
+use Rattle.pb.specs.Sums.{weight-sum}
 use Rattle.direct.proofs.sets.sum_of.Given as given
 
 abbrev pub Inv-loop-t : given.InvT-loop-t

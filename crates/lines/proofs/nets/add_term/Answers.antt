@@ -10,8 +10,9 @@ use mir.Val.{SFits}
 use mir.Syntax.{w16}
 use Rattle.std.proofs.shelf.Signed.{ints, toZ-ofZ}
 use Rattle.pb.specs.Normal.{weight-under}
+use Rattle.pb.proofs.Fairness.{under-small}
 use Rattle.lines.specs.Nets.{at}
-use Rattle.lines.proofs.Netting.{at-set-share, under-small, turned-below, turned-above, lowering-below, lowering-above}
+use Rattle.lines.proofs.Netting.{at-set-share, turned-below, turned-above, lowering-below, lowering-above}
 use Rattle.lines.proofs.nets.add_term.Needs as need
 
 pub returns-then-term-lt0 : need.returns-then-term-lt0
@@ -24,7 +25,7 @@ returns-then-term-lt0 c =
     let low = lowering-below l w below in
     let i : c .from-variable .result ≡ natAbs l = c .from-variable .ensures ∙ (simp toZ-ofZ at (c .unsigned-abs .ensures .value)) in
     let small : natAbs (at (c .args .nets .now) (c .from-variable .result)) ≤ 1280000 = c .pre .within (c .from-variable .result) (omega arith) in
-    let light : natAbs w ≤ 10000 = under-small (c .args .negate) (c .args .term) (c .pre .fair) in
+    let light : natAbs w ≤ 10000 = under-small 256 (c .args .negate) (c .args .term) (c .pre .fair) in
     let weight : c .weight-of-weight .result ≡ w = c .weight-of-weight .ensures in
     record {
       sum = omega (arith, ints);
@@ -41,7 +42,7 @@ returns c =
     let low = lowering-above l w above in
     let i : c .from-variable .result ≡ natAbs l = c .from-variable .ensures ∙ (simp toZ-ofZ at (c .unsigned-abs .ensures .value)) in
     let small : natAbs (at (c .args .nets .now) (c .from-variable .result)) ≤ 1280000 = c .pre .within (c .from-variable .result) (omega arith) in
-    let light : natAbs w ≤ 10000 = under-small (c .args .negate) (c .args .term) (c .pre .fair) in
+    let light : natAbs w ≤ 10000 = under-small 256 (c .args .negate) (c .args .term) (c .pre .fair) in
     let weight : c .weight-of-weight .result ≡ w = c .weight-of-weight .ensures in
     record {
       sum = omega (arith, ints);

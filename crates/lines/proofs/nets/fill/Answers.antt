@@ -8,9 +8,11 @@ use Rattle.std.proofs.shelf.Elements.{all-getD}
 use Rattle.std.proofs.shelf.Lists.{getD-replicate, at-drop-more, at-drop-all}
 use Rattle.std.proofs.shelf.Signed.{ints}
 use Rattle.pb.specs.declared.term.Term.{Term}
+use Rattle.pb.specs.Checks.{Fair}
 use Rattle.pb.specs.Normal.{weight-under, share, net, lowering, lowered}
-use Rattle.lines.specs.Nets.{at, Fair}
-use Rattle.lines.proofs.Netting.{under-small, lowering-small, net-so-far, lowered-so-far}
+use Rattle.pb.proofs.Fairness.{under-small, lowering-small}
+use Rattle.lines.specs.Nets.{at}
+use Rattle.lines.proofs.Netting.{net-so-far, lowered-so-far}
 use Rattle.lines.proofs.nets.fill.Needs as need
 
 pub loop-term-holds : need.loop-term-holds
@@ -22,15 +24,15 @@ loop-term-holds c = (
 pub add-term-sum-requires : need.add-term-sum-requires
 add-term-sum-requires c κs =
     record {
-      fair = all-getD Fair (c .args .terms .now) (c .loop-term .term-index) _ (c .loop-term-test .taken) (c .pre .fair);
+      fair = all-getD (Fair 256) (c .args .terms .now) (c .loop-term .term-index) _ (c .loop-term-test .taken) (c .pre .fair);
       within = λ v h. net-so-far (c .args .negate) (c .args .terms .now) (c .loop-term .term-index) v _ (c .pre .few) (c .pre .fair) (c .loop-term .inv .1 v h);
     }
 
 pub add-sum : need.add-sum
 add-sum c =
     let t : Term = getD (c .args .terms .now) (c .loop-term .term-index) (record { weight = pos 0; literal = pos 0 }) in
-    let fair = all-getD Fair (c .args .terms .now) (c .loop-term .term-index) _ (c .loop-term-test .taken) (c .pre .fair) in
-    let one = lowering-small (t .literal) (weight-under (c .args .negate) t) (under-small (c .args .negate) t fair) in
+    let fair = all-getD (Fair 256) (c .args .terms .now) (c .loop-term .term-index) _ (c .loop-term-test .taken) (c .pre .fair) in
+    let one = lowering-small (t .literal) (weight-under (c .args .negate) t) (under-small 256 (c .args .negate) t fair) in
     let far = lowered-so-far (c .args .negate) (c .args .terms .now) (c .loop-term .term-index) _ (c .pre .few) (c .pre .fair) (c .loop-term .inv .0) in
     let by = c .add-term-sum .ensures .sum in
     omega (arith, ints)
@@ -42,8 +44,8 @@ loop-term-again c =
     let i = c .loop-term .term-index in
     let t : Term = getD ts i (record { weight = pos 0; literal = pos 0 }) in
     let rest = drop (i + 1) ts in
-    let fair = all-getD Fair ts i _ (c .loop-term-test .taken) (c .pre .fair) in
-    let one = lowering-small (t .literal) (weight-under b t) (under-small b t fair) in
+    let fair = all-getD (Fair 256) ts i _ (c .loop-term-test .taken) (c .pre .fair) in
+    let one = lowering-small (t .literal) (weight-under b t) (under-small 256 b t fair) in
     let far = lowered-so-far b ts i _ (c .pre .few) (c .pre .fair) (c .loop-term .inv .0) in
     let by = c .add-term-sum .ensures .sum in
     let more : lowered b (drop i ts) ≡ lowering (t .literal) (weight-under b t) +ℤ lowered b rest = at-drop-more (lowered b) ts i _ (c .loop-term-test .taken) in (

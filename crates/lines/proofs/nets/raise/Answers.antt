@@ -8,8 +8,9 @@ use borrow.Author.Needs.{needs}
 use mathlib.Core.Path.{_≡_, _∙_, ap}
 use Rattle.std.proofs.shelf.Signed.{toZ-ofZ}
 use Rattle.pb.specs.Normal.{raise-of}
+use Rattle.pb.proofs.Gathered.{raise-small}
 use Rattle.lines.specs.Nets.{at}
-use Rattle.lines.proofs.Gathering.{raised-more, raise-small}
+use Rattle.lines.proofs.Gathering.{raised-more}
 use Rattle.lines.proofs.nets.raise.Needs as need
 
 pub loop-v-again : need.loop-v-again

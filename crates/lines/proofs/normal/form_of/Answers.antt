@@ -8,9 +8,10 @@ use mir.Syntax.{w32}
 use Rattle.std.proofs.shelf.Signed.{ints, toZ-ofZ}
 use Rattle.pb.specs.Lines.{Line}
 use Rattle.pb.specs.Normal.{threshold, lowered, raised}
+use Rattle.pb.proofs.Fairness.{fair-terms, net-within, lowered-within}
+use Rattle.pb.proofs.Normalizing.{threshold-within}
 use Rattle.lines.specs.Nets.{at}
-use Rattle.lines.proofs.Netting.{fair-from-fine, net-within, lowered-within}
-use Rattle.lines.proofs.Forming.{threshold-within, checked-from-sound, gathered-from-few, normal-met, normal-unmet}
+use Rattle.lines.proofs.Forming.{gathered-from-few, normal-met, normal-unmet, formed}
 use Rattle.lines.proofs.normal.form_of.Needs as need
 use Rattle.lines.proofs.normal.form_of.Needs.{After-bound-from}
 
@@ -18,15 +19,15 @@ pub fill-lowered-requires : need.fill-lowered-requires
 fill-lowered-requires c κs =
     record {
       few = c .pre .few;
-      fair = fair-from-fine (c .args .variables .count) 1 (c .args .terms .now) (c .args .variables .few) (c .pre .fine);
+      fair = fair-terms (c .args .variables .count) 256 1 (c .args .terms .now) (c .args .variables .few) (c .pre .fine);
       blank = refl;
     }
 
 pub raise-raised-requires : need.raise-raised-requires
 raise-raised-requires c κs =
     λ v h.
-    let fair = fair-from-fine (c .args .variables .count) 1 (c .args .terms .now) (c .args .variables .few) (c .pre .fine) in
-    let net = net-within (c .is-negated .result) (c .args .terms .now) v (c .pre .few) fair in
+    let fair = fair-terms (c .args .variables .count) 256 1 (c .args .terms .now) (c .args .variables .few) (c .pre .fine) in
+    let net = net-within 256 (c .is-negated .result) (c .args .terms .now) v (c .pre .few) fair in
     let tabled = c .fill-lowered .ensures .table v h in
     omega (arith, ints)
 
@@ -45,8 +46,8 @@ summed c =
     let f = c .fits .bound in
     let from : c .bound-from .result ≡ threshold (c .args .relation) (c .args .bound) = simp toZ-ofZ at (c .bound-from .ensures) in
     let most = threshold-within (c .args .relation) (c .args .bound) (c .pre .bounded) in
-    let fair = fair-from-fine (c .args .variables .count) 1 (c .args .terms .now) (c .args .variables .few) (c .pre .fine) in
-    let least = lowered-within (c .is-negated .result) (c .args .terms .now) (c .pre .few) fair in
+    let fair = fair-terms (c .args .variables .count) 256 1 (c .args .terms .now) (c .args .variables .few) (c .pre .fine) in
+    let least = lowered-within 256 (c .is-negated .result) (c .args .terms .now) (c .pre .few) fair in
     let by = c .fill-lowered .ensures .sum in
     let raise = c .raise-raised .ensures in
     record { high = omega (arith, ints); low = omega (arith, ints); new-bound = omega (arith, ints) }
@@ -62,16 +63,13 @@ returns-in-rest c =
     let n = c .args .variables .count in
     let l : Line = record { relation = c .args .relation; bound = c .args .bound; terms = c .args .terms .now } in
     let s = summed (need.at·returns-in-rest c .After-bound-from) in
-    record {
-      sound = checked-from-sound n l (c .pre);
-      form-is =
-          normal-unmet n l (c .is-negated .result) (c .fill-lowered .last .nets) (c .args .variables .few) (c .is-negated .ensures) (c .fill-lowered .ensures .table) _ (through (c .bound-from .result) (c .fill-lowered .result) (c .raise-raised .result))
-          (c .in-rest .ensures tt)
-          (c .sense-from-sense .ensures)
-          (s .new-bound);
-      few = omega arith;
-      beyond = refl;
-    }
+    formed n l _ _ _ (c .pre)
+    (normal-unmet n l (c .is-negated .result) (c .fill-lowered .last .nets) (c .args .variables .few) (c .is-negated .ensures) (c .fill-lowered .ensures .table) _ (through (c .bound-from .result) (c .fill-lowered .result) (c .raise-raised .result))
+    (c .in-rest .ensures tt)
+    (c .sense-from-sense .ensures)
+    (s .new-bound))
+    (omega arith)
+    refl
 
 pub gather-count-requires : need.gather-count-requires
 gather-count-requires c κs =
@@ -86,15 +84,12 @@ returns c =
     let s = summed (need.at·returns c .After-bound-from) in
     let few = gathered-from-few n l (c .is-negated .result) (c .fill-lowered .last .nets) (c .args .variables .few) (c .is-negated .ensures) (c .fill-lowered .ensures .table) in
     let number = c .gather-count .ensures .number in
-    record {
-      sound = checked-from-sound n l (c .pre);
-      form-is =
-          normal-met n l (c .is-negated .result) (c .fill-lowered .last .nets) (c .args .variables .few) (c .is-negated .ensures) (c .fill-lowered .ensures .table) _ (through (c .bound-from .result) (c .fill-lowered .result) (c .raise-raised .result)) _
-          (c .in-Some .ensures tt)
-          (c .sense-from-sense .ensures)
-          (s .new-bound)
-          _
-          (c .gather-count .ensures .terms);
-      few = omega arith;
-      beyond = c .gather-count .ensures .rest;
-    }
+    formed n l _ _ _ (c .pre)
+    (normal-met n l (c .is-negated .result) (c .fill-lowered .last .nets) (c .args .variables .few) (c .is-negated .ensures) (c .fill-lowered .ensures .table) _ (through (c .bound-from .result) (c .fill-lowered .result) (c .raise-raised .result)) _
+    (c .in-Some .ensures tt)
+    (c .sense-from-sense .ensures)
+    (s .new-bound)
+    _
+    (c .gather-count .ensures .terms))
+    (omega arith)
+    (c .gather-count .ensures .rest)

@@ -1,0 +1,6 @@
+mod Each
+mod Firsts
+mod Gcd
+mod Keeping
+mod Literals
+mod Quotients
