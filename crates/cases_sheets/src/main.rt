@@ -1,5 +1,7 @@
 // Runs every schedule file of standard input through the translator, and prints what comes of each
 // below its name. A case is a name and a file, each after its length in two bytes.
+#![tactic(auto)]
+
 ghost use Rattle.std.specs.Prelude.{◌<◌, length, IfSome};
 
 use output::print;

@@ -1,4 +1,6 @@
 // A layer over any sheet, another ceiling included, that lets through at most so many clauses.
+#![tactic(auto)]
+
 ghost use Rattle.std.specs.Prelude.{◌≡◌, ◌≤◌, max, length};
 ghost use Rattle.cnf.proofs.Capping.{capped_begins, capped_holds};
 ghost use Rattle.cnf.specs.Calls.{capped};

@@ -1,4 +1,6 @@
 // An encoder made of two: one for the lines of few terms, the other for the rest.
+#![tactic(auto)]
+
 ghost use Rattle.std.specs.Prelude.{◌≡◌};
 ghost use Rattle.encode.proofs.Choosing.{up_to_lawful};
 ghost use Rattle.encode.specs.Choice.{up_to};

@@ -1,9 +1,9 @@
 -- Well-formed clauses have no literal 0, so that each 0 in the cells ends a clause, and the cells read back as the
 -- clauses.
-use Rattle.std.proofs.Common.{◌≡◌, ℕ, suc, ◌+◌, ◌<◌, true, false, cond, ◌&&◌, List, [], ◌∷◌, ◌++◌, ℤ, pos, negsuc, nat_abs, sym, refl, ap, ◌∙◌, append_assoc, append-nil, arith}
+use Rattle.std.proofs.Common.{◌≡◌, ℕ, ◌<◌, true, false, cond, List, [], ◌∷◌, ◌++◌, ℤ, pos, negsuc, nat_abs, refl, ap, ◌∙◌, append_assoc, arith}
 use Rattle.std.proofs.lemmas.Bool.{and_parts, ne_eqb, ltb-true}
-use Rattle.cnf.specs.Cells.{is_zero, cells_of, onto_first, clauses_in, cell_layout}
-use Rattle.cnf.specs.Clauses.{Clause, of_literals, literal_formed, literals_formed, well_formed, all_well_formed}
+use Rattle.cnf.specs.Cells.{is_zero, onto_first, clauses_in, cell_layout}
+use Rattle.cnf.specs.Clauses.{Clause, of_literals, literal_formed, literals_formed, all_well_formed}
 use Rattle.cnf.specs.Layouts.{Faithful, written}
 use Rattle.cnf.specs.Marks.{marks}
 use Rattle.cnf.proofs.Marking.{part_from}

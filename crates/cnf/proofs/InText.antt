@@ -1,13 +1,13 @@
 -- A text is read as it was written: digits make the number, a space ends it, and each row's 0 ends its clause.
-use Rattle.std.proofs.Common.{◌≡◌, ℕ, suc, ◌+◌, ◌-◌, ◌*◌, ◌/◌, ◌%◌, ◌^◌, ◌<◌, ◌≤◌, Bool, true, false, cond, ◌&&◌, ◌||◌, eqb, ltb, leb, List, [], ◌∷◌, ◌++◌, ℤ, pos, negsuc, nat_abs, Some, None, decimal, Option, sym, refl, ap, ◌∙◌, append_assoc, arith}
+use Rattle.std.proofs.Common.{◌≡◌, ℕ, suc, ◌+◌, ◌-◌, ◌*◌, ◌/◌, ◌%◌, ◌^◌, ◌<◌, Bool, true, false, ◌&&◌, ◌||◌, eqb, ltb, leb, List, [], ◌∷◌, ◌++◌, ℤ, pos, negsuc, nat_abs, Some, None, decimal, Option, sym, refl, ap, ◌∙◌, append_assoc, arith}
 use Rattle.std.specs.Fmt.{signed_decimal}
 use Rattle.std.proofs.lemmas.Fmt.{decimal_by_steps}
 use Rattle.std.proofs.lemmas.Bool.{and_parts, and_from, or_from, ne_eqb, le-leb, leb-true}
-use Rattle.cnf.specs.Cells.{clauses_in, cell_layout}
+use Rattle.cnf.specs.Cells.{cell_layout}
 use Rattle.cnf.specs.Clauses.{Clause, literal_formed, literals_formed, all_well_formed}
 use Rattle.cnf.specs.Layouts.{Faithful, written}
 use Rattle.cnf.specs.Marks.{marks, IsPart}
-use Rattle.cnf.specs.Text.{row_of, row, is_feed, is_space, with_digit, before, numbers_from, numbers, clauses_of, read_text, or_none, text_layout, text_of, TextReadsBack}
+use Rattle.cnf.specs.Text.{row_of, is_feed, is_space, with_digit, before, numbers_from, numbers, clauses_of, read_text, or_none, text_layout, text_of, TextReadsBack}
 use Rattle.cnf.proofs.InCells.{cells_back}
 use Rattle.cnf.proofs.Marking.{marks_append, part_behind}
 

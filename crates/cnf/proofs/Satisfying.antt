@@ -1,5 +1,5 @@
 -- Satisfaction of clauses after others, of a beginning, and by assignments that agree on the variables named.
-use Rattle.std.proofs.Common.{◌≡◌, ℕ, zero, suc, Bool, true, false, not, ◌&&◌, ◌||◌, List, [], ◌∷◌, ◌++◌, take, ℤ, pos, negsuc, nat_abs, sym, refl, ap, ◌∙◌}
+use Rattle.std.proofs.Common.{◌≡◌, ℕ, zero, suc, Bool, true, false, not, ◌&&◌, ◌||◌, List, [], ◌∷◌, ◌++◌, take, ℤ, pos, negsuc, nat_abs, refl, ap, ◌∙◌}
 use Rattle.std.proofs.lemmas.Bool.{and_parts, and_from}
 use Rattle.cnf.specs.Clauses.{Clause, some_holds, satisfies, satisfies_all, literals_within, names_within}
 use Rattle.cnf.specs.Laws.{Satisfaction}

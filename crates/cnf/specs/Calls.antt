@@ -3,7 +3,7 @@ use Rattle.std.specs.Prelude.{◌≡◌, ℕ, suc, Bool, true, cond, ◌&&◌, L
 use Rattle.fault.specs.declared.sheet.SheetFault.{SheetFault}
 use Rattle.fault.specs.declared.sheet.SheetFault.TheVariants.{Malformed, Full, Cut}
 use Rattle.fault.specs.Refusals.{placed}
-use Rattle.cnf.specs.Clauses.{Clause, well_formed, all_well_formed}
+use Rattle.cnf.specs.Clauses.{Clause, well_formed}
 
 -- which lists of clauses fit a sheet
 abbrev pub Rule : Type 0

@@ -1,4 +1,6 @@
 // Clauses, and what a sheet that holds them is.
+#![tactic(auto)]
+
 pub mod clause;
 pub mod listing;
 pub mod marks;

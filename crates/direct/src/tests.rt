@@ -29,7 +29,7 @@ fn at_least_is_its_least_sets(rt: HostRuntime) {
         terms: &TERMS,
     };
     assert!(rt; matches!(encode(line, &mut sheet), Ok(2)));
-    assert_eq!(rt; sheet.bytes(), b"1 2 0\n3 0\n");
+    assert_eq!(rt; sheet.bytes(), b"1 2 0\n3 0\n".as_slice());
 }
 
 #[test]
@@ -48,7 +48,7 @@ fn no_terms_reach_only_0(rt: HostRuntime) {
         terms: &[],
     };
     assert!(rt; matches!(encode(unmet, &mut sheet), Ok(1)));
-    assert_eq!(rt; sheet.bytes(), b"0\n");
+    assert_eq!(rt; sheet.bytes(), b"0\n".as_slice());
 }
 
 #[test]
@@ -61,7 +61,7 @@ fn exactly_is_two_lists_or_nothing(rt: HostRuntime) {
     let mut memory = [0u8; 64];
     let mut sheet = TextSheet::new(&mut memory, 3);
     assert!(rt; matches!(encode(line, &mut sheet), Ok(3)));
-    assert_eq!(rt; sheet.bytes(), b"1 2 0\n3 0\n-2 -3 0\n");
+    assert_eq!(rt; sheet.bytes(), b"1 2 0\n3 0\n-2 -3 0\n".as_slice());
     let mut memory = [0u8; 64];
     let mut short = TextSheet::new(&mut memory, 3);
     let _ = short.give(&[9]);
@@ -71,7 +71,7 @@ fn exactly_is_two_lists_or_nothing(rt: HostRuntime) {
             Err(EncodeFault::Sheet(SheetFault::Full(1)))
         )
     );
-    assert_eq!(rt; short.bytes(), b"9 0\n");
+    assert_eq!(rt; short.bytes(), b"9 0\n".as_slice());
 }
 
 #[test]

@@ -1,9 +1,8 @@
 -- From an encoder's law alone: give every auxiliary its value, and the assignment satisfies the clauses; no other does.
-use Rattle.std.proofs.Common.{◌≡◌, ℕ, ◌+◌, ◌-◌, ◌<◌, ◌≤◌, cond, leb, sym, refl, ap, ◌∙◌, arith}
+use Rattle.std.proofs.Common.{◌≡◌, ℕ, ◌+◌, ◌-◌, ◌<◌, ◌≤◌, cond, leb, sym, ap, ◌∙◌, arith}
 use Rattle.std.proofs.lemmas.Bool.{le-leb, lt-leb, cond-true, cond-false}
-use Rattle.encode.specs.Law.{Encoding, InReach, Lawful}
-use Rattle.encode.specs.Models.{Model, Extends, ModelsExtend}
-use Rattle.pb.specs.Lines.{Working}
+use Rattle.encode.specs.Law.{Encoding, Lawful}
+use Rattle.encode.specs.Models.{ModelsExtend}
 use Rattle.pb.specs.Meaning.{Assignment}
 
 module _ (n first : ℕ) (above : n < first) (a value : Assignment) where

@@ -50,7 +50,7 @@ fn direct_names_the_least_sets(rt: HostRuntime) {
     assert!(rt; matches!(Direct::new().encode(at_least(1, &[]), 4, &mut sheet), Ok(1)));
     assert_eq!(rt;
         sheet.finish().bytes(),
-        b"1 2 0\n3 0\n1 2 0\n3 0\n-2 -3 0\n0\n"
+        b"1 2 0\n3 0\n1 2 0\n3 0\n-2 -3 0\n0\n".as_slice()
     );
 }
 
@@ -74,7 +74,7 @@ fn order_counts_in_a_matrix(rt: HostRuntime) {
     assert!(rt; matches!(Order::new().encode(at_least(1, &[]), 9, &mut sheet), Ok(1)));
     assert_eq!(rt;
         sheet.finish().bytes(),
-        b"-1 3 0\n1 -3 0\n-1 4 0\n1 -4 0\n-3 5 0\n-2 5 0\n2 3 -5 0\n-4 6 0\n-2 -3 6 0\n2 4 -6 0\n3 -6 0\n6 0\n-1 7 0\n1 -7 0\n-7 8 0\n-2 8 0\n2 7 -8 0\n-8 0\n0\n"
+        b"-1 3 0\n1 -3 0\n-1 4 0\n1 -4 0\n-3 5 0\n-2 5 0\n2 3 -5 0\n-4 6 0\n-2 -3 6 0\n2 4 -6 0\n3 -6 0\n6 0\n-1 7 0\n1 -7 0\n-7 8 0\n-2 8 0\n2 7 -8 0\n-8 0\n0\n".as_slice()
     );
 }
 

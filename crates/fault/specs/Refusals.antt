@@ -1,5 +1,5 @@
 -- The table of refusals: for each cause its number, the layer that refuses and the place, and the line that is printed.
-use Rattle.std.specs.Prelude.{ℕ, List, [], ◌∷◌, ◌++◌, codes, decimal}
+use Rattle.std.specs.Prelude.{ℕ, List, ◌++◌, codes, decimal}
 use Rattle.fault.specs.declared.line.LineFault.{LineFault}
 use Rattle.fault.specs.declared.line.LineFault.TheVariants.{Relation, Bound, Terms, Literal, Weight}
 use Rattle.fault.specs.declared.book.BookFault.{BookFault}

@@ -1,4 +1,6 @@
 // Refusals: one enum for each layer that can refuse, and what is printed of any of them.
+#![tactic(auto)]
+
 pub mod book;
 pub mod file;
 pub mod layer;

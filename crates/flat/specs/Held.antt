@@ -1,6 +1,6 @@
 -- What a flat sheet holds: the clauses that the cells in use are read as; which lists fit its table; and the table
 -- after a clause was given or refused.
-use Rattle.std.specs.Prelude.{ℕ, Bool, cond, List, length, take, ℤ}
+use Rattle.std.specs.Prelude.{Bool, cond, List, length, take, ℤ}
 use Rattle.cnf.specs.Calls.{Rule}
 use Rattle.cnf.specs.Cells.{cells_of, clauses_in, cell_layout}
 use Rattle.cnf.specs.Clauses.{Clause, of_literals}

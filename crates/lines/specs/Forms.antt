@@ -1,10 +1,10 @@
 -- What an answer of the normal form says, beside the terms that stand in the lent table.
-use Rattle.std.specs.Prelude.{◌≡◌, ℕ, ◌≤◌, List, length, take, drop, ℤ, Some, None, Option}
+use Rattle.std.specs.Prelude.{◌≡◌, ℕ, ◌≤◌, List, length, drop, ℤ, Some, None, Option}
 use Rattle.fault.specs.declared.line.LineFault.{LineFault}
 use Rattle.pb.specs.declared.working.Head.{Head}
 use Rattle.pb.specs.declared.working.Sense.{Sense}
 use Rattle.pb.specs.declared.working.Weighted.{Weighted}
-use Rattle.pb.specs.Lines.{Line, Working, impossible_line, line_in}
+use Rattle.pb.specs.Lines.{Line, impossible_line, line_in}
 use Rattle.pb.specs.Checks.{line_check}
 use Rattle.pb.specs.Normal.{normal, floored}
 use Rattle.pb.specs.Meaning.{Assignment, meets, met}

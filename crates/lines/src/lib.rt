@@ -1,4 +1,6 @@
 // Checks of a line, and its normal form.
+#![tactic(auto)]
+
 pub mod check;
 mod nets;
 pub mod normal;

@@ -1,4 +1,6 @@
 // Reads a schedule file from standard input, and prints its clauses or why it was refused.
+#![tactic(auto)]
+
 ghost use Rattle.std.specs.Prelude.{◌≤◌, length, IfOk};
 
 use std::io;

@@ -1,4 +1,6 @@
 // What is printed of a schedule file: its clause text, or why it was refused.
+#![tactic(auto)]
+
 use ceiling::Ceiling;
 use std::io;
 use std::io::Write;

@@ -1,6 +1,6 @@
 -- Which lines are refused, and by what: the relation's number, the bound and the number of terms first, then each
 -- term's literal and weight.
-use Rattle.std.specs.Prelude.{◌≡◌, ℕ, suc, ◌+◌, ◌<◌, ◌≤◌, Bool, true, false, cond, ◌&&◌, List, [], ◌∷◌, length, ℤ, Some, None, Ok, Err, Option, Result, ◌==◌, nat_le, nat_lt, unsigned_abs}
+use Rattle.std.specs.Prelude.{◌≡◌, ℕ, suc, ◌<◌, ◌≤◌, Bool, cond, ◌&&◌, List, [], ◌∷◌, length, ℤ, Some, None, Ok, Err, Option, Result, ◌==◌, nat_le, nat_lt, unsigned_abs}
 use Rattle.fault.specs.declared.line.LineFault.{LineFault}
 use Rattle.fault.specs.declared.line.LineFault.TheVariants.{Relation as BadRelation, Bound as BadBound, Terms as TooMany, Literal as BadLiteral, Weight as BadWeight}
 use Rattle.pb.specs.declared.relation.Relation.{Relation}

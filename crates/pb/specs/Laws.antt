@@ -1,9 +1,8 @@
 -- What every layer above may use of the transformations of lines, and all that it needs: who meets a line, and that a
 -- line stays proper. Nothing above has to open a definition.
-use Rattle.std.specs.Prelude.{◌≡◌, ℕ, ◌<◌, ◌≤◌, true, false, ◌⊎◌, [], length, ℤ, Some, None, unsigned_abs}
+use Rattle.std.specs.Prelude.{◌≡◌, ℕ, ◌<◌, ◌≤◌, true, ◌⊎◌, [], length, ℤ, Some, None, unsigned_abs}
 use Rattle.std.specs.List.{AllByRecursion as All}
 use Rattle.pb.specs.declared.working.Sense.TheVariants.{AtLeast, Exactly}
-use Rattle.pb.specs.declared.working.Weighted.{Weighted}
 use Rattle.pb.specs.Lines.{Line, Working}
 use Rattle.pb.specs.Checks.{Sound}
 use Rattle.pb.specs.Normal.{normal}

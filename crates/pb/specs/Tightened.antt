@@ -1,6 +1,5 @@
 -- Tightening a working line: smaller weights and a smaller bound that the same assignments meet.
-use Rattle.std.specs.Prelude.{ℕ, zero, suc, ◌+◌, ◌-◌, ◌/◌, ◌%◌, min, Bool, true, false, cond, ◌&&◌, List, [], ◌∷◌, map, length, ◌==◌, nat_lt}
-use Rattle.pb.specs.declared.working.Sense.{Sense}
+use Rattle.std.specs.Prelude.{ℕ, zero, suc, ◌+◌, ◌-◌, ◌/◌, ◌%◌, min, cond, ◌&&◌, List, [], ◌∷◌, length, ◌==◌, nat_lt}
 use Rattle.pb.specs.declared.working.Sense.TheVariants.{AtLeast, Exactly}
 use Rattle.pb.specs.declared.working.Weighted.{Weighted}
 use Rattle.pb.specs.Lines.{Working, empty_line, impossible_line}

@@ -4,7 +4,7 @@ use Rattle.pb.specs.declared.relation.Relation.TheVariants.{AtLeast, AtMost, Exa
 use Rattle.pb.specs.declared.term.Term.{Term}
 use Rattle.pb.specs.declared.working.Sense.TheVariants.{AtLeast as LeastOf, Exactly as Just}
 use Rattle.pb.specs.declared.working.Weighted.{Weighted}
-use Rattle.pb.specs.Lines.{Line, Working, empty_line, impossible_line}
+use Rattle.pb.specs.Lines.{empty_line, impossible_line}
 use Rattle.pb.specs.Normal.{normal}
 use Rattle.pb.specs.Settled.{forced, reduced}
 use Rattle.pb.specs.Tightened.{tightened}

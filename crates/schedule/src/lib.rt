@@ -1,4 +1,6 @@
 // Schedule files: variables and lines as a row of records.
+#![tactic(auto)]
+
 mod bodies;
 mod fields;
 pub mod line;

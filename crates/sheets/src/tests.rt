@@ -16,7 +16,7 @@ fn a_text_sheet(rt: HostRuntime) {
     let mut bytes = [0; 22];
     let mut sheet = TextSheet::new(&mut bytes);
     exercise(&rt, &mut sheet);
-    assert_eq!(rt; sheet.finish().bytes(), b"1 -2 0\n4 0\n5 -6 0\n");
+    assert_eq!(rt; sheet.finish().bytes(), b"1 -2 0\n4 0\n5 -6 0\n".as_slice());
 }
 
 #[test]

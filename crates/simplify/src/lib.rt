@@ -1,5 +1,7 @@
 // Working lines made smaller: what a line forces, what is left of it where a literal holds, and
 // the same line with smaller weights. Each works in place on a table that the caller lends.
+#![tactic(auto)]
+
 mod divisors;
 pub mod forcing;
 mod head;

@@ -10,7 +10,10 @@ fn rows_are_dimacs(rt: HostRuntime) {
     let _ = sheet.give(&[]);
     let _ = sheet.give(&[i32::MIN, 1070]);
     assert_eq!(rt; sheet.count(), 4);
-    assert_eq!(rt; sheet.bytes(), b"1 2 0\n-3 0\n0\n-2147483648 1070 0\n");
+    assert_eq!(rt;
+        sheet.bytes(),
+        b"1 2 0\n-3 0\n0\n-2147483648 1070 0\n".as_slice()
+    );
 }
 
 #[test]
@@ -21,7 +24,7 @@ fn the_last_byte_is_used(rt: HostRuntime) {
     let mut short = [0u8; 5];
     let mut sheet = TextSheet::new(&mut short, 9);
     assert!(rt; matches!(sheet.give(&[1, 2]), Err(SheetFault::Full(0))));
-    assert_eq!(rt; sheet.bytes(), b"");
+    assert_eq!(rt; sheet.bytes(), b"".as_slice());
 }
 
 #[test]
@@ -33,5 +36,5 @@ fn a_cut_keeps_the_first_rows(rt: HostRuntime) {
     assert!(rt; matches!(sheet.give(&[]), Err(SheetFault::Full(2))));
     assert!(rt; matches!(sheet.cut(3), Err(SheetFault::Cut(2))));
     assert!(rt; matches!(sheet.cut(1), Ok(())));
-    assert_eq!(rt; sheet.bytes(), b"1 0\n");
+    assert_eq!(rt; sheet.bytes(), b"1 0\n".as_slice());
 }

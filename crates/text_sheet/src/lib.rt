@@ -1,4 +1,6 @@
 // Clauses as DIMACS text over lent bytes.
+#![tactic(auto)]
+
 mod bytes;
 pub mod finished;
 mod reading;

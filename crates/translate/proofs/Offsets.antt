@@ -1,5 +1,5 @@
 -- A line's fault stands within the line's records, so that its offset fits.
-use Rattle.std.proofs.Common.{◌≡◌, ℕ, suc, ◌+◌, ◌*◌, ◌≤◌, Bool, true, false, cond, leb, List, [], ◌∷◌, length, nat_abs, Some, None, Option, refl, arith}
+use Rattle.std.proofs.Common.{◌≡◌, ℕ, suc, ◌+◌, ◌*◌, ◌≤◌, Bool, true, false, cond, leb, List, [], ◌∷◌, length, nat_abs, Some, Option, arith}
 use Rattle.fault.specs.declared.line.LineFault.{LineFault}
 use Rattle.fault.specs.declared.line.LineFault.TheVariants.{Bound as BadBound, Terms as TooMany, Literal as BadLiteral, Weight as BadWeight}
 use Rattle.pb.specs.declared.term.Term.{Term}

@@ -1,21 +1,18 @@
 -- A run goes on, ends at a fault, or ends as it should: what comes of the rest of the file, one line at a time.
-use Rattle.std.proofs.Common.{◌≡◌, ℕ, zero, suc, ◌+◌, ◌-◌, ◌<◌, ◌≤◌, true, false, ◌⊎◌, List, [], ◌∷◌, ◌++◌, length, drop, is_some, Some, None, Ok, Err, Option, Result, sym, refl, ap, ◌∙◌, subst, inl, inr, add-one, arith}
+use Rattle.std.proofs.Common.{◌≡◌, ℕ, suc, ◌+◌, ◌-◌, ◌<◌, ◌≤◌, true, false, List, ◌++◌, length, drop, is_some, Some, None, Ok, Err, Option, Result, sym, refl, ap, ◌∙◌, subst, inl, inr, arith}
 use Rattle.std.proofs.lemmas.List.{drop-drop}
 use Rattle.std.proofs.lemmas.Bool.{true≢false, false≢true}
-use Rattle.fault.specs.declared.book.BookFault.TheVariants.{Full}
 use Rattle.fault.specs.declared.file.FileFault.{FileFault}
-use Rattle.fault.specs.declared.file.FileFault.TheVariants.{Line as LineAt, Book as BookAt}
-use Rattle.fault.specs.declared.line.LineFault.{LineFault}
 use Rattle.fault.specs.declared.refusal.Refusal.{Refusal}
 use Rattle.fault.specs.Refusals.{file_refusal}
 use Rattle.pb.specs.Lines.{Line, Working}
 use Rattle.pb.specs.Checks.{line_check}
-use Rattle.schedule.specs.Reading.{then, offset_of_fault, read_line, read_lines, line_size, read_variables, Schedule, read_schedule}
+use Rattle.schedule.specs.Reading.{then, read_line, read_lines, line_size, read_variables, read_schedule}
 use Rattle.schedule.proofs.RoundTrip.{reads_back}
 use Rattle.text.specs.Rows.{Page, grown}
 use Rattle.text.proofs.Laws.{grown_grown}
 use Rattle.translate.specs.declared.run.Run.{Run}
-use Rattle.translate.specs.Translation.{working_form, write_form, lines_written, Translated, write_schedule, or_refusal, translation, OfSchedules}
+use Rattle.translate.specs.Translation.{working_form, write_form, write_schedule, or_refusal, translation, OfSchedules}
 use Rattle.translate.specs.Streaming.{written, outcome, coming, GoesOn, EndsWith, Grew}
 use Rattle.translate.specs.Entering.{NotEntered}
 use Rattle.translate.proofs.Lines.{outcome_more, lines_end, lines_fault, terms_stop, lines_taken, lines_full}

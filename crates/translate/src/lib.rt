@@ -1,4 +1,6 @@
 // From the bytes of a schedule file to clause text.
+#![tactic(auto)]
+
 ghost use Rattle.std.specs.Prelude.{◌≡◌, ℕ, ◌≤◌, length, drop, None, Ok, Err, MatchResult};
 ghost use Rattle.text.specs.Pages.{page_of};
 ghost use Rattle.translate.specs.Translation.{translation, Done, Undone, OfSchedules, FormsKeep};

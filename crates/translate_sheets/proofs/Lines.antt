@@ -11,11 +11,11 @@ use Rattle.fault.specs.declared.refusal.Refusal.{Refusal}
 use Rattle.pb.specs.declared.relation.Relation.{Relation}
 use Rattle.pb.specs.declared.term.Term.{Term}
 use Rattle.pb.specs.Lines.{Line}
-use Rattle.pb.specs.Checks.{checked_head, checked_relation, relation_of, sized, terms_fault, line_check}
+use Rattle.pb.specs.Checks.{checked_head, checked_relation, relation_of, terms_fault, line_check}
 use Rattle.schedule.specs.Records.{line_body, record_body, relation_in, bound_in, terms_in, term_in}
 use Rattle.schedule.specs.Reading.{then, head_or_fault, read_terms, read_line, read_line_of, read_line_with, next_line, judged, line_or_fault, line_fault, read_lines, more_lines, no_more_lines, line_size}
 use Rattle.cnf.specs.Calls.{Rule}
-use Rattle.translate_sheets.specs.Translation.{Progress, working_form, write_form, lines_written}
+use Rattle.translate_sheets.specs.Translation.{Progress, working_form, write_form}
 use Rattle.translate_sheets.specs.Streaming.{outcome}
 
 -- writing is as good as delayed until the rest is read

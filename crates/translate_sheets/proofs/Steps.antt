@@ -1,21 +1,18 @@
 -- A run goes on, ends at a fault, or ends as it should: what comes of the rest of the file, one line at a time.
-use Rattle.std.proofs.Common.{◌≡◌, ℕ, zero, suc, ◌+◌, ◌-◌, ◌<◌, ◌≤◌, true, false, ◌⊎◌, List, [], ◌∷◌, ◌++◌, length, take, drop, is_some, Some, None, Ok, Err, Option, Result, sym, refl, ap, ◌∙◌, subst, inl, inr, append_assoc, append-nil, add-one, arith}
+use Rattle.std.proofs.Common.{◌≡◌, ℕ, suc, ◌+◌, ◌-◌, ◌<◌, ◌≤◌, true, false, List, [], ◌++◌, length, take, drop, is_some, Some, None, Ok, Err, Option, Result, sym, refl, ap, ◌∙◌, subst, inl, inr, append_assoc, append-nil, arith}
 use Rattle.std.proofs.lemmas.List.{drop-drop, take_at}
 use Rattle.std.proofs.lemmas.Bool.{true≢false, false≢true}
-use Rattle.fault.specs.declared.book.BookFault.TheVariants.{Full}
 use Rattle.fault.specs.declared.file.FileFault.{FileFault}
-use Rattle.fault.specs.declared.file.FileFault.TheVariants.{Line as LineAt, Book as BookAt}
-use Rattle.fault.specs.declared.line.LineFault.{LineFault}
 use Rattle.fault.specs.declared.refusal.Refusal.{Refusal}
 use Rattle.fault.specs.Refusals.{file_refusal}
 use Rattle.pb.specs.Lines.{Line, Working}
 use Rattle.pb.specs.Checks.{line_check}
-use Rattle.schedule.specs.Reading.{then, offset_of_fault, read_line, read_lines, line_size, read_variables, Schedule, read_schedule}
+use Rattle.schedule.specs.Reading.{then, read_line, read_lines, line_size, read_variables, read_schedule}
 use Rattle.schedule.proofs.RoundTrip.{reads_back}
 use Rattle.cnf.specs.Calls.{Rule}
 use Rattle.cnf.specs.Clauses.{Clause}
 use Rattle.translate_sheets.specs.declared.run.Run.{Run}
-use Rattle.translate_sheets.specs.Translation.{Progress, working_form, write_form, lines_written, write_schedule, or_refusal, translation, OfSchedules}
+use Rattle.translate_sheets.specs.Translation.{Progress, working_form, write_form, write_schedule, or_refusal, translation, OfSchedules}
 use Rattle.translate_sheets.specs.Streaming.{written, progress, outcome, coming, GoesOn, EndsWith, Grew}
 use Rattle.translate_sheets.specs.Entering.{NotEntered}
 use Rattle.translate_sheets.proofs.Lines.{outcome_more, lines_end, lines_fault, terms_stop, lines_taken, lines_full}

@@ -1,5 +1,5 @@
 -- What entering a line answers.
-use Rattle.std.specs.Prelude.{◌≡◌, ℕ, ◌<◌, ◌≤◌, ◌⊎◌, List, length, take, Some, None}
+use Rattle.std.specs.Prelude.{◌≡◌, ℕ, ◌<◌, ◌≤◌, ◌⊎◌, List, length, Some, None}
 use Rattle.fault.specs.declared.book.BookFault.TheVariants.{Full}
 use Rattle.fault.specs.declared.file.FileFault.{FileFault}
 use Rattle.fault.specs.declared.file.FileFault.TheVariants.{Line as LineAt, Book as BookAt}

@@ -1,4 +1,6 @@
 // From the bytes of a schedule file to clauses.
+#![tactic(auto)]
+
 ghost use Rattle.std.specs.Prelude.{◌≡◌, ℕ, ◌≤◌, length, drop, None, Ok, Err, MatchResult};
 ghost use Rattle.encode.specs.Models.{ModelsExtend};
 ghost use Rattle.cnf.specs.Sheets.{Kept};

@@ -1,5 +1,5 @@
 -- What the lines were written to is the answer, or is taken back to what the sheet held.
-use Rattle.std.proofs.Common.{take, ap, ◌∙◌}
+use Rattle.std.proofs.Common.{◌∙◌}
 use Rattle.encode.proofs.Choosing.{up_to_lawful}
 use Rattle.encode.proofs.Directing.{direct_lawful}
 use Rattle.encode.proofs.Modelling.{models_extend}

@@ -1,5 +1,5 @@
 -- Each turn takes a line; the last finds the end of the file or a fault, and what the run has come to is the answer.
-use Rattle.std.proofs.Common.{◌≡◌, drop, sym, refl, ap, ◌∙◌, subst}
+use Rattle.std.proofs.Common.{drop, sym, refl, ap, ◌∙◌, subst}
 use Rattle.std.proofs.lemmas.Result.{err_from_is_err_and}
 use Rattle.std.proofs.lemmas.Option.{MatchOption-at_some, MatchOption-at_none}
 use Rattle.schedule.specs.Held.{line_of}
@@ -19,12 +19,12 @@ loop-line-init g c =
       λ ok. ok,
     )
 
-pub returns-in-err-line : goal.returns-in-err-line
-returns-in-err-line g c =
-    let p = err_from_is_err_and c.from-residual.result c.from-residual.ensures.1 in
+pub returns-in_err-line : goal.returns-in_err-line
+returns-in_err-line g c =
+    let p = err_from_is_err_and c.from_residual.result c.from_residual.ensures.1 in
     let at = c.loop-line.reader.at in
     let inv = c.loop-line.invariant in
-    let fault = comes_to_fault (g.S.Sheet.fits c.args.sheet.now) c.args.variables.count c.loop-line.run (g.S.Sheet.held c.loop-line.sheet) at (drop at c.loop-line.reader.input.now) c.in-err-line.field-0.0 c.in-err-line.ensures.cases.0 in
+    let fault = comes_to_fault (g.S.Sheet.fits c.args.sheet.now) c.args.variables.count c.loop-line.run (g.S.Sheet.held c.loop-line.sheet) at (drop at c.loop-line.reader.input.now) c.in_err-line.field-0.0 c.in_err-line.ensures.cases.0 in
     record { stays = record { rule = inv.3; same = inv.4; kept = inv.5 }; grew = inv.1; cases = rw (p.1, p.2) (sym inv.0 ∙ fault) }
 
 pub loop-line-preserved : goal.loop-line-preserved
@@ -33,36 +33,36 @@ loop-line-preserved g c =
     let fits = g.S.Sheet.fits c.args.sheet.now in
     let inv = c.loop-line.invariant in
     let held = g.S.Sheet.held c.loop-line.sheet in
-    let after = g.S.Sheet.held c.take-line.new.sheet in
-    let p = c.in-ok-take-line.ensures in
-    let goes = subst (λ f. GoesOn f c.args.variables.count c.loop-line.run held c.take-line.new.run after h.offset (line_of h)) inv.3 p.cases in
-    let read = MatchOption-at_some _ _ h c.in-Some.is c.in-ok-line.ensures.cases in
-    let on = moved_on fits c.args.variables.count c.loop-line.run c.take-line.new.run held after (line_of h) h.offset c.loop-line.reader.at c.line.new.self.at c.loop-line.reader.input.now c.line.new.self.input.now goes read.1 read.2 c.in-ok-line.ensures.input read.0 in (
+    let after = g.S.Sheet.held c.take_line.new.sheet in
+    let p = c.in_ok-take_line.ensures in
+    let goes = subst (λ f. GoesOn f c.args.variables.count c.loop-line.run held c.take_line.new.run after h.offset (line_of h)) inv.3 p.cases in
+    let read = MatchOption-at_some _ _ h c.in-Some.is c.in_ok-line.ensures.cases in
+    let on = moved_on fits c.args.variables.count c.loop-line.run c.take_line.new.run held after (line_of h) h.offset c.loop-line.reader.at c.line.new.self.at c.loop-line.reader.input.now c.line.new.self.input.now goes read.1 read.2 c.in_ok-line.ensures.input read.0 in (
       on ∙ inv.0,
       grew_on _ _ _ inv.1 p.grew,
-      c.in-ok-line.ensures.input ∙ inv.2,
+      c.in_ok-line.ensures.input ∙ inv.2,
       p.stays.rule ∙ inv.3,
       p.stays.same ∙ inv.4,
       λ ok. p.stays.kept (inv.5 ok),
     )
 
-pub returns-in-err-take-line : goal.returns-in-err-take-line
-returns-in-err-take-line g c =
-    let r = err_from_is_err_and c.from-residual-in-err-take-line.result c.from-residual-in-err-take-line.ensures.1 in
+pub returns-in_err-take_line : goal.returns-in_err-take_line
+returns-in_err-take_line g c =
+    let r = err_from_is_err_and c.from_residual-in_err-take_line.result c.from_residual-in_err-take_line.ensures.1 in
     let h = c.in-Some.line in
     let fits = g.S.Sheet.fits c.args.sheet.now in
     let inv = c.loop-line.invariant in
     let held = g.S.Sheet.held c.loop-line.sheet in
-    let p = c.in-err-take-line.ensures in
-    let fault = c.in-err-take-line.field-0.0 in
+    let p = c.in_err-take_line.ensures in
+    let fault = c.in_err-take_line.field-0.0 in
     let ends = subst (λ f. EndsWith f c.args.variables.count c.loop-line.run held fault h.offset (line_of h)) inv.3 p.cases in
-    let read = MatchOption-at_some _ _ h c.in-Some.is c.in-ok-line.ensures.cases in
+    let read = MatchOption-at_some _ _ h c.in-Some.is c.in_ok-line.ensures.cases in
     let ended = ended_by fits c.args.variables.count c.loop-line.run held fault (line_of h) h.offset c.loop-line.reader.at (drop c.loop-line.reader.at c.loop-line.reader.input.now) ends read.1 read.0 in
     record { stays = record { rule = p.stays.rule ∙ inv.3; same = p.stays.same ∙ inv.4; kept = λ ok. p.stays.kept (inv.5 ok) }; grew = grew_on _ _ _ inv.1 p.grew; cases = rw (r.1, r.2) (sym inv.0 ∙ ended) }
 
 pub returns-in-None : goal.returns-in-None
 returns-in-None g c =
-    let read = MatchOption-at_none _ _ c.in-default.is c.in-ok-line.ensures.cases in
+    let read = MatchOption-at_none _ _ c.in_default.is c.in_ok-line.ensures.cases in
     let at = c.loop-line.reader.at in
     let inv = c.loop-line.invariant in
     let held = g.S.Sheet.held c.loop-line.sheet in
@@ -71,7 +71,7 @@ returns-in-None g c =
 
 pub returns-in-Some-refused : goal.returns-in-Some-refused
 returns-in-Some-refused g c =
-    let read = MatchOption-at_none _ _ c.in-default.is c.in-ok-line.ensures.cases in
+    let read = MatchOption-at_none _ _ c.in_default.is c.in_ok-line.ensures.cases in
     let at = c.loop-line.reader.at in
     let inv = c.loop-line.invariant in
     let held = g.S.Sheet.held c.loop-line.sheet in

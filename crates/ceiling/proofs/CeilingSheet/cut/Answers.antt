@@ -1,7 +1,6 @@
 -- A cut goes to the sheet below, and fewer clauses stay within the limit.
 use mathlib.Core.Path.{refl, ap}
 use native.Mathlib.Omega.{arith}
-use Prim.Native.Nat.{min}
 use lib.ListN.{length, length-take}
 use Rattle.cnf.specs.Calls.{capped}
 use Rattle.ceiling.proofs.CeilingSheet.cut.Goals as goal

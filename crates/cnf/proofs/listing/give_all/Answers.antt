@@ -1,12 +1,12 @@
 -- What was poured stands after what was held, so that the counts differ by its length and a cut takes it back.
-use Rattle.std.proofs.Common.{◌≡◌, ◌+◌, ◌-◌, ◌≤◌, length, Err, sym, refl, ap, ◌∙◌, arith}
+use Rattle.std.proofs.Common.{◌≡◌, ◌+◌, ◌-◌, length, Err, ap, ◌∙◌, arith}
 use Rattle.fault.specs.Refusals.{placed}
 use Rattle.cnf.proofs.Pouring.{cut_back, pour_longer, all_taken, all_refused, all_whole}
 use Rattle.cnf.proofs.Satisfying.{satisfaction}
 use Rattle.cnf.proofs.listing.give_all.Goals as goal
 
-pub overflow-sub-result : goal.overflow-sub-result
-overflow-sub-result g c =
+pub overflow_sub-result : goal.overflow_sub-result
+overflow_sub-result g c =
     let s = c.args.sheet.now in
     omega (arith, c.count-before.ensures, c.count.ensures, ap length c.in-Ok.ensures.after, pour_longer (g.S.Sheet.fits s) (g.S.Sheet.held s) (g.L.Listing.clauses c.args.list.now))
 
@@ -40,7 +40,7 @@ returns-in-Err g c =
     let p = c.in-Err.ensures in
     let t = all_refused fits held list c.in-Err.fault p.answer in
     let back = c.cut.ensures.after ∙ cut_back fits held list _ _ p.after c.count-before.ensures in
-    let answer = ap Err (c.of-outer-call.ensures ∙ ap (λ n. placed n c.in-Err.fault) c.count-before.ensures) ∙ t.0 in
+    let answer = ap Err (c.of_outer_call.ensures ∙ ap (λ n. placed n c.in-Err.fault) c.count-before.ensures) ∙ t.0 in
     record {
       given = record {
         rule = c.cut.ensures.rule ∙ p.rule;

@@ -25,5 +25,5 @@ returns c =
     let at = c.args.at in
     let n = length clause in
     let size : n ≡ at + n - at = omega arith in
-    ap (λ xs. set xs (at + n) (pos 0)) (put_mid-paste at _ before _ clause n c.copy-from-slice.ensures.after size refl ∙ paste_all before at clause n refl)
+    ap (λ xs. set xs (at + n) (pos 0)) (put_mid-paste at _ before _ clause n c.copy_from_slice.ensures.after size refl ∙ paste_all before at clause n refl)
     ∙ zero_after at clause before c.requires

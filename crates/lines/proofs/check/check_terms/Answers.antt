@@ -13,22 +13,22 @@ returns-then-variable-eq0 c =
     let ts = c.args.terms.now in
     let t : Term = get_or ts c.loop-i.i (record { weight = pos 0; literal = pos 0 }) in
     let f : SFits w16 t.literal = search rules in
-    let v : c.unsigned-abs-variable.result ≡ nat_abs t.literal = simp to_z-of_z at c.unsigned-abs-variable.ensures.value in
+    let v : c.unsigned_abs-variable.result ≡ nat_abs t.literal = simp to_z-of_z at c.unsigned_abs-variable.ensures.value in
     let e = c.then-variable-eq0.either in
     let unnamed : literal_named c.count-most.result t.literal ≡ false = grind (arith, nat_tests) in
     ap (λ n. terms_fault n 1 ts) (sym c.count-most.ensures)
     ∙ sym c.loop-i.invariant
     ∙ fault_of_literal c.count-most.result c.loop-i.i ts _ c.loop-i-test.true unnamed
 
-pub returns-then-unsigned-abs-gt-MOST-WEIGHT : goal.returns-then-unsigned-abs-gt-MOST-WEIGHT
-returns-then-unsigned-abs-gt-MOST-WEIGHT c =
+pub returns-then-unsigned_abs-gt-MOST_WEIGHT : goal.returns-then-unsigned_abs-gt-MOST_WEIGHT
+returns-then-unsigned_abs-gt-MOST_WEIGHT c =
     let ts = c.args.terms.now in
     let t : Term = get_or ts c.loop-i.i (record { weight = pos 0; literal = pos 0 }) in
     let f : SFits w16 t.literal = search rules in
-    let v : c.unsigned-abs-variable.result ≡ nat_abs t.literal = simp to_z-of_z at c.unsigned-abs-variable.ensures.value in
+    let v : c.unsigned_abs-variable.result ≡ nat_abs t.literal = simp to_z-of_z at c.unsigned_abs-variable.ensures.value in
     let named : literal_named c.count-most.result t.literal ≡ true = grind (arith, nat_tests) in
     let g : SFits w32 t.weight = search rules in
-    let w : c.unsigned-abs.result ≡ nat_abs t.weight = simp to_z-of_z at c.unsigned-abs.ensures.value in
+    let w : c.unsigned_abs.result ≡ nat_abs t.weight = simp to_z-of_z at c.unsigned_abs.ensures.value in
     let large : weight_small t.weight ≡ false = grind (arith, nat_tests) in
     ap (λ n. terms_fault n 1 ts) (sym c.count-most.ensures)
     ∙ sym c.loop-i.invariant
@@ -39,10 +39,10 @@ loop-i-preserved c =
     let ts = c.args.terms.now in
     let t : Term = get_or ts c.loop-i.i (record { weight = pos 0; literal = pos 0 }) in
     let f : SFits w16 t.literal = search rules in
-    let v : c.unsigned-abs-variable.result ≡ nat_abs t.literal = simp to_z-of_z at c.unsigned-abs-variable.ensures.value in
+    let v : c.unsigned_abs-variable.result ≡ nat_abs t.literal = simp to_z-of_z at c.unsigned_abs-variable.ensures.value in
     let named : literal_named c.count-most.result t.literal ≡ true = grind (arith, nat_tests) in
     let g : SFits w32 t.weight = search rules in
-    let w : c.unsigned-abs.result ≡ nat_abs t.weight = simp to_z-of_z at c.unsigned-abs.ensures.value in
+    let w : c.unsigned_abs.result ≡ nat_abs t.weight = simp to_z-of_z at c.unsigned_abs.ensures.value in
     let small : weight_small t.weight ≡ true = grind (arith, nat_tests) in
     sym (fault_further_on c.count-most.result c.loop-i.i ts _ c.loop-i-test.true named small) ∙ c.loop-i.invariant
 

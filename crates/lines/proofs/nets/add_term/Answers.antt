@@ -16,10 +16,10 @@ returns-then-term-lt0 c =
     let below : lt_z l (pos 0) ≡ true = simp to_z-of_z at c.if-term-lt0.true in
     let turn = turned_below l w below in
     let low = lowering_below l w below in
-    let i : c.from-variable.result ≡ nat_abs l = c.from-variable.ensures ∙ (simp to_z-of_z at c.unsigned-abs.ensures.value) in
+    let i : c.from-variable.result ≡ nat_abs l = c.from-variable.ensures ∙ (simp to_z-of_z at c.unsigned_abs.ensures.value) in
     let small : nat_abs (at c.args.nets.now c.from-variable.result) ≤ 1280000 = c.requires.within c.from-variable.result (omega arith) in
     let light : nat_abs w ≤ 10000 = under_small 256 c.args.negate c.args.term c.requires.fair in
-    let weight : c.weight-of-weight.result ≡ w = c.weight-of-weight.ensures in
+    let weight : c.weight_of-weight.result ≡ w = c.weight_of-weight.ensures in
     record {
       sum = omega (arith, ints);
       table = at_set_share c.args.nets.now l w _ c.from-variable.result i (omega arith) (omega (arith, ints));
@@ -33,10 +33,10 @@ returns c =
     let above : lt_z l (pos 0) ≡ false = simp to_z-of_z at c.if-term-lt0.false in
     let turn = turned_above l w above in
     let low = lowering_above l w above in
-    let i : c.from-variable.result ≡ nat_abs l = c.from-variable.ensures ∙ (simp to_z-of_z at c.unsigned-abs.ensures.value) in
+    let i : c.from-variable.result ≡ nat_abs l = c.from-variable.ensures ∙ (simp to_z-of_z at c.unsigned_abs.ensures.value) in
     let small : nat_abs (at c.args.nets.now c.from-variable.result) ≤ 1280000 = c.requires.within c.from-variable.result (omega arith) in
     let light : nat_abs w ≤ 10000 = under_small 256 c.args.negate c.args.term c.requires.fair in
-    let weight : c.weight-of-weight.result ≡ w = c.weight-of-weight.ensures in
+    let weight : c.weight_of-weight.result ≡ w = c.weight_of-weight.ensures in
     record {
       sum = omega (arith, ints);
       table = at_set_share c.args.nets.now l w _ c.from-variable.result i (omega arith) (omega (arith, ints));

@@ -1,5 +1,5 @@
 -- A turn takes one term from those left to the sums.
-use Rattle.std.proofs.Common.{◌≡◌, ◌+◌, get_or, drop, ℤ, pos, ◌+ℤ◌, ap, ◌∙◌, arith}
+use Rattle.std.proofs.Common.{◌≡◌, ◌+◌, get_or, drop, pos, ◌+ℤ◌, ap, ◌∙◌, arith}
 use Rattle.std.proofs.ByRecursion.{All-get_or}
 use Rattle.std.proofs.lemmas.List.{get_or-replicate, at_drop_more, at_drop_all}
 use Rattle.std.proofs.lemmas.Int.{ints}
@@ -17,20 +17,20 @@ loop-term-init c = (
   λ v h. let z : at c.args.nets.now v ≡ pos 0 = ap (λ t. at t v) c.requires.blank ∙ get_or-replicate 257 v (pos 0) (pos 0) (omega arith) in omega (arith, ints),
 )
 
-pub add-term-sum-requires : goal.add-term-sum-requires
-add-term-sum-requires c =
+pub add_term-sum-requires : goal.add_term-sum-requires
+add_term-sum-requires c =
     record {
       fair = All-get_or (Fair 256) c.args.terms.now c.loop-term.term-index _ c.loop-term-test.true c.requires.fair;
       within = λ v h. net_so_far c.args.negate c.args.terms.now c.loop-term.term-index v _ c.requires.few c.requires.fair (c.loop-term.invariant.1 v h);
     }
 
-pub overflow-add-sum : goal.overflow-add-sum
-overflow-add-sum c =
+pub overflow_add-sum : goal.overflow_add-sum
+overflow_add-sum c =
     let t : Term = get_or c.args.terms.now c.loop-term.term-index (record { weight = pos 0; literal = pos 0 }) in
     let fair = All-get_or (Fair 256) c.args.terms.now c.loop-term.term-index _ c.loop-term-test.true c.requires.fair in
     let one = lowering_small t.literal (weight_under c.args.negate t) (under_small 256 c.args.negate t fair) in
     let far = lowered_so_far c.args.negate c.args.terms.now c.loop-term.term-index _ c.requires.few c.requires.fair c.loop-term.invariant.0 in
-    let by = c.add-term-sum.ensures.sum in
+    let by = c.add_term-sum.ensures.sum in
     omega (arith, ints)
 
 pub loop-term-preserved : goal.loop-term-preserved
@@ -43,13 +43,13 @@ loop-term-preserved c =
     let fair = All-get_or (Fair 256) ts i _ c.loop-term-test.true c.requires.fair in
     let one = lowering_small t.literal (weight_under b t) (under_small 256 b t fair) in
     let far = lowered_so_far b ts i _ c.requires.few c.requires.fair c.loop-term.invariant.0 in
-    let by = c.add-term-sum.ensures.sum in
+    let by = c.add_term-sum.ensures.sum in
     let more : lowered b (drop i ts) ≡ lowering t.literal (weight_under b t) +ℤ lowered b rest = at_drop_more (lowered b) ts i _ c.loop-term-test.true in (
       omega (arith, ints, c.loop-term.invariant.0),
       λ v h.
           let step : net b (drop i ts) v ≡ share v t.literal (weight_under b t) +ℤ net b rest v = at_drop_more (λ us. net b us v) ts i _ c.loop-term-test.true in
           let before = c.loop-term.invariant.1 v h in
-          let after = c.add-term-sum.ensures.table v in
+          let after = c.add_term-sum.ensures.table v in
           omega (arith, ints),
     )
 

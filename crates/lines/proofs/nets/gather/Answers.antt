@@ -16,7 +16,7 @@ bounds-form-count c =
     let f = at c.args.nets.now in
     let v = c.loop-v.v in
     let fits : SFits w32 (f c.from.result) = search rules in
-    let one : term_of v (f v) ≡ c.term-from.result ∷ [] = ap (λ u. term_of v (f u)) (sym c.from.ensures) ∙ (simp to_z-of_z at c.term-from.ensures) in
+    let one : term_of v (f v) ≡ c.term_from.result ∷ [] = ap (λ u. term_of v (f u)) (sym c.from.ensures) ∙ (simp to_z-of_z at c.term_from.ensures) in
     let few : length (gathered c.count-v-end.result 1 f) ≤ 64 = rw c.count-v-end.ensures c.requires in
     written_room c.count-v-end.result v f _ _ _ c.loop-v.invariant c.loop-v-test.true few _ one
 
@@ -29,13 +29,13 @@ turned_on c =
     elim c.if-net-ne0.branch [
       | then-net-ne0 w ↦
           let fits : SFits w32 (f c.from.result) = search rules in
-          let one : term_of v (f v) ≡ w.term-from.result ∷ [] = ap (λ u. term_of v (f u)) (sym c.from.ensures) ∙ (simp to_z-of_z at w.term-from.ensures) in
+          let one : term_of v (f v) ≡ w.term_from.result ∷ [] = ap (λ u. term_of v (f u)) (sym c.from.ensures) ∙ (simp to_z-of_z at w.term_from.ensures) in
           let room = written_room n v f _ _ _ c.loop-v.invariant c.loop-v-test.true few _ one in
-          rw (w.count-is, w.form_is) (written_one n v f _ _ _ c.loop-v.invariant c.loop-v-test.true room _ one)
+          rw (w.count-is, w.form-is) (written_one n v f _ _ _ c.loop-v.invariant c.loop-v-test.true room _ one)
       | else-net-ne0 w ↦
           let zero : f c.from.result ≡ pos 0 = omega (arith, ints, w.if-net-ne0.false) in
           let none : term_of v (f v) ≡ [] = ap (λ u. term_of v (f u)) (sym c.from.ensures) ∙ ap (λ z. term_of v z) zero in
-          rw (w.count-is, w.form_is) (written_none n v f _ _ _ c.loop-v.invariant c.loop-v-test.true none)
+          rw (w.count-is, w.form-is) (written_none n v f _ _ _ c.loop-v.invariant c.loop-v-test.true none)
     ]
 
 pub loop-v-preserved : goal.loop-v-preserved

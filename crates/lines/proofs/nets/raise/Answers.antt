@@ -12,8 +12,8 @@ loop-v-preserved c =
     let f = at c.args.nets.now in
     let v = c.loop-v.v in
     let fits : SFits w32 (f c.from.result) = search rules in
-    let by : c.raise-by-sum.result ≡ raise_of (f v) =
-    (simp to_z-of_z at c.raise-by-sum.ensures) ∙ ap (λ u. raise_of (f u)) c.from.ensures in
+    let by : c.raise_by-sum.result ≡ raise_of (f v) =
+    (simp to_z-of_z at c.raise_by-sum.ensures) ∙ ap (λ u. raise_of (f u)) c.from.ensures in
     let more = raised_more c.count-v-end.result v f c.loop-v-test.true in
     let small = raise_small (f v) in
     let modest : nat_abs (f v) ≤ 640000 = c.requires v (omega arith) in

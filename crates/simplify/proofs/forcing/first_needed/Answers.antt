@@ -6,17 +6,17 @@ use Rattle.pb.specs.Settled.{forced_least}
 use Rattle.simplify.proofs.Firsts.{none, needed_now, needed_later}
 use Rattle.simplify.proofs.forcing.first_needed.Goals as goal
 
-pub returns-then-saturating-sub-bound : goal.returns-then-saturating-sub-bound
-returns-then-saturating-sub-bound c =
+pub returns-then-saturating_sub-bound : goal.returns-then-saturating_sub-bound
+returns-then-saturating_sub-bound c =
     let t = get_or c.args.terms.now c.loop-t.t-index none in
     let f : SFits w16 t.literal = search rules in
-    let g : SFits w32 c.from-then-saturating-sub-bound.result = search rules in
-    let e : c.from-then-saturating-sub-bound.result ≡ t.literal = simp to_z-of_z at c.from-then-saturating-sub-bound.ensures in
-    ap Some (to_z-of_z w32 _ g ∙ e) ∙ sym (needed_now c.args.sum c.args.bound c.args.terms.now c.loop-t.t-index c.loop-t-test.true (omega (arith, c.from.ensures, c.saturating-sub.ensures))) ∙ c.loop-t.invariant
+    let g : SFits w32 c.from-then-saturating_sub-bound.result = search rules in
+    let e : c.from-then-saturating_sub-bound.result ≡ t.literal = simp to_z-of_z at c.from-then-saturating_sub-bound.ensures in
+    ap Some (to_z-of_z w32 _ g ∙ e) ∙ sym (needed_now c.args.sum c.args.bound c.args.terms.now c.loop-t.t-index c.loop-t-test.true (omega (arith, c.from.ensures, c.saturating_sub.ensures))) ∙ c.loop-t.invariant
 
 pub loop-t-preserved : goal.loop-t-preserved
 loop-t-preserved c =
-    sym (needed_later c.args.sum c.args.bound c.args.terms.now c.loop-t.t-index c.loop-t-test.true (omega (arith, c.from.ensures, c.saturating-sub.ensures))) ∙ c.loop-t.invariant
+    sym (needed_later c.args.sum c.args.bound c.args.terms.now c.loop-t.t-index c.loop-t-test.true (omega (arith, c.from.ensures, c.saturating_sub.ensures))) ∙ c.loop-t.invariant
 
 pub returns : goal.returns
 returns c =

@@ -14,17 +14,17 @@ returns-then-bound-weight c =
     let n : to_z w32 (of_z w32 (pos 0 -ℤ to_z w32 (of_z w32 c.from-literal.result))) ≡ neg_ℤ t.literal = omega (arith, ints) in
     ap Some n ∙ sym (excess_now c.args.sum c.args.bound c.args.terms.now c.loop-t.t-index c.loop-t-test.true (omega (arith, c.from-weight.ensures))) ∙ c.loop-t.invariant
 
-pub returns-then-saturating-sub-bound : goal.returns-then-saturating-sub-bound
-returns-then-saturating-sub-bound c =
+pub returns-then-saturating_sub-bound : goal.returns-then-saturating_sub-bound
+returns-then-saturating_sub-bound c =
     let t = get_or c.args.terms.now c.loop-t.t-index none in
     let f : SFits w16 t.literal = search rules in
     let g : SFits w32 c.from-literal.result = search rules in
     let e : c.from-literal.result ≡ t.literal = simp to_z-of_z at c.from-literal.ensures in
-    ap Some (to_z-of_z w32 _ g ∙ e) ∙ sym (settled_now c.args.sum c.args.bound c.args.terms.now c.loop-t.t-index c.loop-t-test.true (omega (arith, c.from-weight.ensures)) (omega (arith, c.from-weight.ensures, c.saturating-sub.ensures))) ∙ c.loop-t.invariant
+    ap Some (to_z-of_z w32 _ g ∙ e) ∙ sym (settled_now c.args.sum c.args.bound c.args.terms.now c.loop-t.t-index c.loop-t-test.true (omega (arith, c.from-weight.ensures)) (omega (arith, c.from-weight.ensures, c.saturating_sub.ensures))) ∙ c.loop-t.invariant
 
 pub loop-t-preserved : goal.loop-t-preserved
 loop-t-preserved c =
-    sym (settled_later c.args.sum c.args.bound c.args.terms.now c.loop-t.t-index c.loop-t-test.true (omega (arith, c.from-weight.ensures)) (omega (arith, c.from-weight.ensures, c.saturating-sub.ensures))) ∙ c.loop-t.invariant
+    sym (settled_later c.args.sum c.args.bound c.args.terms.now c.loop-t.t-index c.loop-t-test.true (omega (arith, c.from-weight.ensures)) (omega (arith, c.from-weight.ensures, c.saturating_sub.ensures))) ∙ c.loop-t.invariant
 
 pub returns : goal.returns
 returns c =

@@ -16,12 +16,12 @@ loop-i-preserved c =
     let ys = c.loop-i.terms in
     let l = to_z w32 (of_z w32 c.args.literal) in
     let f : SFits w16 (get_or ys c.loop-i.i none).literal = search rules in
-    let e : c.from.result ≡ nat_abs (get_or ys c.loop-i.i none).literal = c.from.ensures ∙ simp to_z-of_z at c.unsigned-abs.ensures.value in
+    let e : c.from.result ≡ nat_abs (get_or ys c.loop-i.i none).literal = c.from.ensures ∙ simp to_z-of_z at c.unsigned_abs.ensures.value in
     elim c.if-from-variable.branch [
       | then-from-variable w ↦
-          simp (w.terms-is, w.count-is) (kept_yes l xs ys c.loop-i.count c.loop-i.i c.loop-i.invariant c.loop-i-test.true c.loop-i.auto.terms (λ n. w.if-from-variable.true (e ∙ n ∙ sym c.unsigned-abs-variable.ensures.value)))
+          simp (w.terms-is, w.count-is) (kept_yes l xs ys c.loop-i.count c.loop-i.i c.loop-i.invariant c.loop-i-test.true c.loop-i.auto.terms (λ n. w.if-from-variable.true (e ∙ n ∙ sym c.unsigned_abs-variable.ensures.value)))
       | else-from-variable w ↦
-          simp (w.terms-is, w.count-is) (kept_no l xs ys c.loop-i.count c.loop-i.i c.loop-i.invariant c.loop-i-test.true (sym e ∙ w.if-from-variable.false ∙ c.unsigned-abs-variable.ensures.value))
+          simp (w.terms-is, w.count-is) (kept_no l xs ys c.loop-i.count c.loop-i.i c.loop-i.invariant c.loop-i-test.true (sym e ∙ w.if-from-variable.false ∙ c.unsigned_abs-variable.ensures.value))
     ]
 
 pub returns : goal.returns

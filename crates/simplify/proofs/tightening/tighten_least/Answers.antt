@@ -7,8 +7,8 @@ pub divide-requires : goal.divide-requires
 divide-requires c =
     least_positive c.args.bound _ c.args.terms.now _ (omega arith) (omega arith) c.saturate.ensures c.common-divisor.ensures
 
-pub rounded-up-requires : goal.rounded-up-requires
-rounded-up-requires c =
+pub rounded_up-requires : goal.rounded_up-requires
+rounded_up-requires c =
     least_positive c.args.bound _ c.args.terms.now _ (omega arith) (omega arith) c.saturate.ensures c.common-divisor.ensures
 
 pub returns : goal.returns

@@ -10,16 +10,16 @@ returns-then-n-lt10 t c =
     let n = c.args.n in
     let d : 48 + n % 10 ≡ 48 + n = omega arith in
     let text = ap (λ x. x ∷ []) d ∙ sym (decimal_digit n c.if-n-lt10.true) in
-    subst (λ ds. Put c.put-byte.result c.args.at ds c.args.out.now c.put-byte.new.out) text c.put-byte.ensures
+    subst (λ ds. Put c.put_byte.result c.args.at ds c.args.out.now c.put_byte.new.out) text c.put_byte.ensures
 
-pub returns-in-err-to : goal.returns-in-err-to
-returns-in-err-to t c =
+pub returns-in_err-to : goal.returns-in_err-to
+returns-in_err-to t c =
     let n = c.args.n in
     let text = decimal_step n c.if-n-lt10.false (omega (arith, c.ranges.n)) in
-    rw c.from-residual.ensures (no_room_front ((48 + n % 10) ∷ []) (sym text) c.in-err-to.ensures)
+    rw c.from_residual.ensures (no_room_front ((48 + n % 10) ∷ []) (sym text) c.in_err-to.ensures)
 
 pub returns : goal.returns
 returns t c =
     let n = c.args.n in
     let text = decimal_step n c.if-n-lt10.false (omega (arith, c.ranges.n)) in
-    put_then ((48 + n % 10) ∷ []) c.put-byte-2.new.out c.put-byte-2.result (sym text) c.in-ok-to.ensures c.put-byte-2.ensures
+    put_then ((48 + n % 10) ∷ []) c.put_byte-2.new.out c.put_byte-2.result (sym text) c.in_ok-to.ensures c.put_byte-2.ensures

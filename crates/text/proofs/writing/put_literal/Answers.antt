@@ -14,6 +14,6 @@ pub returns : goal.returns
 returns c =
     let f : SFits w32 c.args.literal = c.ranges.literal in
     let under = simp to_z-of_z at c.if-literal-ge0.false in
-    let n = simp to_z-of_z at c.unsigned-abs-n.ensures.value in
+    let n = simp to_z-of_z at c.unsigned_abs-n.ensures.value in
     let text = ap (λ k. 45 ∷ decimal k) n ∙ signed_under c.args.literal under in
-    put_then (decimal c.unsigned-abs-n.result) c.put-digits-2.new.out c.put-digits-2.result text c.in-ok-to.ensures c.put-digits-2.ensures
+    put_then (decimal c.unsigned_abs-n.result) c.put_digits-2.new.out c.put_digits-2.result text c.in_ok-to.ensures c.put_digits-2.ensures

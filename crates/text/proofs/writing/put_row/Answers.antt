@@ -16,25 +16,25 @@ unfolding spelt
 row_next clause i h f =
     ap (λ z. signed_decimal z ++ (32 ∷ row (drop (i + 1) clause))) (to_z-of_z w32 (get_or clause i (pos 0)) f) ∙ sym (at_drop_more row clause i (pos 0) h)
 
-pub returns-in-err-end : goal.returns-in-err-end
+pub returns-in_err-end : goal.returns-in_err-end
 unfolding spelt
-returns-in-err-end c =
+returns-in_err-end c =
     let s = c.args.clause.now in
     let i = c.loop-literal.literal-index in
     let f : SFits w32 (get_or s i (pos 0)) = search rules in
     let next = row_next s i c.loop-literal-test.true f in
-    rw c.from-residual.ensures (no_room_then c.loop-literal.invariant.1 c.loop-literal.invariant.2 (no_room_front (32 ∷ row (drop (i + 1) s)) next c.in-err-end.ensures))
+    rw c.from_residual.ensures (no_room_then c.loop-literal.invariant.1 c.loop-literal.invariant.2 (no_room_front (32 ∷ row (drop (i + 1) s)) next c.in_err-end.ensures))
 
-pub returns-in-err-to : goal.returns-in-err-to
+pub returns-in_err-to : goal.returns-in_err-to
 unfolding spelt
-returns-in-err-to c =
+returns-in_err-to c =
     let s = c.args.clause.now in
     let i = c.loop-literal.literal-index in
     let f : SFits w32 (get_or s i (pos 0)) = search rules in
     let next = row_next s i c.loop-literal-test.true f in
-    rw c.from-residual-in-err-to.ensures
+    rw c.from_residual-in_err-to.ensures
     (no_room_then c.loop-literal.invariant.1 c.loop-literal.invariant.2
-    (no_room_then next c.in-ok-end.ensures (no_room_front (row (drop (i + 1) s)) refl c.in-err-to.ensures)))
+    (no_room_then next c.in_ok-end.ensures (no_room_front (row (drop (i + 1) s)) refl c.in_err-to.ensures)))
 
 pub loop-literal-preserved : goal.loop-literal-preserved
 unfolding spelt
@@ -47,23 +47,23 @@ loop-literal-preserved c =
     let text = spelt s i in (
       xs ++ (text ++ (32 ∷ [])),
       append_assoc xs (text ++ (32 ∷ [])) (row (drop (i + 1) s)) ∙ ap (λ ys. xs ++ ys) (append_assoc text (32 ∷ []) (row (drop (i + 1) s)) ∙ next) ∙ c.loop-literal.invariant.1,
-      puts_then refl c.loop-literal.invariant.2 (puts_then refl c.in-ok-end.ensures c.in-ok-to.ensures),
+      puts_then refl c.loop-literal.invariant.2 (puts_then refl c.in_ok-end.ensures c.in_ok-to.ensures),
     )
 
 -- no literal is left: the row's end is
 row_last : (clause : List ℤ) (i : ℕ) → length clause ≤ i → 48 ∷ 10 ∷ [] ≡ row (drop i clause)
 row_last clause i h = sym (at_drop_all row clause i h)
 
-pub returns-in-err-last : goal.returns-in-err-last
-returns-in-err-last c =
+pub returns-in_err-last : goal.returns-in_err-last
+returns-in_err-last c =
     let last = row_last c.args.clause.now c.loop-literal.literal-index c.loop-literal-test.false in
-    rw c.from-residual-in-err-last.ensures (no_room_then c.loop-literal.invariant.1 c.loop-literal.invariant.2 (no_room_front (10 ∷ []) last c.in-err-last.ensures))
+    rw c.from_residual-in_err-last.ensures (no_room_then c.loop-literal.invariant.1 c.loop-literal.invariant.2 (no_room_front (10 ∷ []) last c.in_err-last.ensures))
 
 pub returns : goal.returns
 returns c =
     let xs = c.loop-literal.invariant.0 in
     let last = row_last c.args.clause.now c.loop-literal.literal-index c.loop-literal-test.false in
-    put_then (10 ∷ []) c.put-byte-3.new.out c.put-byte-3.result
+    put_then (10 ∷ []) c.put_byte-3.new.out c.put_byte-3.result
     (append_assoc xs (48 ∷ []) (10 ∷ []) ∙ ap (λ ys. xs ++ ys) last ∙ c.loop-literal.invariant.1)
-    (puts_then refl c.loop-literal.invariant.2 c.in-ok-last.ensures)
-    c.put-byte-3.ensures
+    (puts_then refl c.loop-literal.invariant.2 c.in_ok-last.ensures)
+    c.put_byte-3.ensures

@@ -25,15 +25,15 @@ pub returns-then-to-row : goal.returns-then-to-row
 returns-then-to-row c ls is formed =
     elim (cases_lt (length ls) c.args.j) [
       | inl over ↦ sym (slice_get_past ls (c.args.j - 1) (omega arith))
-      | inr inside ↦ absurd (omega (arith, c.after-mark-to.ensures, space_short c.args.row.now ls is formed c.args.j inside))
+      | inr inside ↦ absurd (omega (arith, c.after_mark-to.ensures, space_short c.args.row.now ls is formed c.args.j inside))
     ]
 
-pub slice-bounds-number-in-count : goal.slice-bounds-number-in-count
-slice-bounds-number-in-count c = omega (arith, apart c.args.row.now c.args.j _ _ c.requires c.after-mark-from.ensures c.after-mark-to.ensures c.if-to-row.false)
+pub slice_bounds-number_in-count : goal.slice_bounds-number_in-count
+slice_bounds-number_in-count c = omega (arith, apart c.args.row.now c.args.j _ _ c.requires c.after_mark-from.ensures c.after_mark-to.ensures c.if-to-row.false)
 
-pub slice-bounds-number-in-start : goal.slice-bounds-number-in-start
-slice-bounds-number-in-start c =
-    let h : c.after-mark-from.result ≤ c.after-mark-to.result - 1 = slice-bounds-number-in-count c in
+pub slice_bounds-number_in-start : goal.slice_bounds-number_in-start
+slice_bounds-number_in-start c =
+    let h : c.after_mark-from.result ≤ c.after_mark-to.result - 1 = slice_bounds-number_in-count c in
     search rules
 
 pub returns : goal.returns
@@ -42,10 +42,10 @@ returns c ls is formed =
     let j = c.args.j in
     let there : j ≤ length ls =
     elim (cases_lt (length ls) j) [
-      | inl over ↦ absurd (omega (arith, c.after-mark-to.ensures, space_beyond row ls is formed j over))
+      | inl over ↦ absurd (omega (arith, c.after_mark-to.ensures, space_beyond row ls is formed j over))
       | inr inside ↦ inside
     ] in
     let k : j - 1 < length ls = omega arith in
-    let end : c.after-mark-to.result ≡ place_after_mark is_space (j - 1 + 1) row = c.after-mark-to.ensures ∙ ap (λ n. place_after_mark is_space n row) (let e : j ≡ j - 1 + 1 = omega arith in e) in
-    c.number-in.ensures (get_or ls (j - 1) (pos 0)) (word_at row ls is formed (j - 1) _ _ k c.after-mark-from.ensures end) (formed_at ls (j - 1) formed k)
+    let end : c.after_mark-to.result ≡ place_after_mark is_space (j - 1 + 1) row = c.after_mark-to.ensures ∙ ap (λ n. place_after_mark is_space n row) (let e : j ≡ j - 1 + 1 = omega arith in e) in
+    c.number_in.ensures (get_or ls (j - 1) (pos 0)) (word_at row ls is formed (j - 1) _ _ k c.after_mark-from.ensures end) (formed_at ls (j - 1) formed k)
     ∙ sym (slice_get-get_or ls (j - 1) (pos 0) k)

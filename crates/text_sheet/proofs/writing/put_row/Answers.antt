@@ -30,21 +30,21 @@ row_last clause i h = sym (at_drop_all row_of clause i h)
 pub loop-literal-init : goal.loop-literal-init
 loop-literal-init c = ([], refl, overwritten_none c.args.at c.args.out.now, omega arith)
 
-pub put-literal-end-requires : goal.put-literal-end-requires
+pub put_literal-end-requires : goal.put_literal-end-requires
 unfolding spelt
-put-literal-end-requires c =
+put_literal-end-requires c =
     let s = c.args.clause.now in
     let i = c.loop-literal.literal-index in
     let f : SFits w32 (get_or s i (pos 0)) = search rules in
     omega (arith, c.requires, c.loop-literal.invariant.3, c.loop-literal.auto.out, left_size s i c.loop-literal.invariant.0 c.loop-literal.invariant.1, next_size s i c.loop-literal-test.true f)
 
-pub put-byte-to-requires : goal.put-byte-to-requires
+pub put_byte-to-requires : goal.put_byte-to-requires
 unfolding spelt
-put-byte-to-requires c =
+put_byte-to-requires c =
     let s = c.args.clause.now in
     let i = c.loop-literal.literal-index in
     let f : SFits w32 (get_or s i (pos 0)) = search rules in
-    omega (arith, c.requires, c.loop-literal.invariant.3, c.loop-literal.auto.out, c.put-literal-end.auto.out, c.put-literal-end.ensures.ends, left_size s i c.loop-literal.invariant.0 c.loop-literal.invariant.1, next_size s i c.loop-literal-test.true f)
+    omega (arith, c.requires, c.loop-literal.invariant.3, c.loop-literal.auto.out, c.put_literal-end.auto.out, c.put_literal-end.ensures.ends, left_size s i c.loop-literal.invariant.0 c.loop-literal.invariant.1, next_size s i c.loop-literal-test.true f)
 
 pub loop-literal-preserved : goal.loop-literal-preserved
 unfolding spelt
@@ -55,25 +55,25 @@ loop-literal-preserved c =
     let f : SFits w32 (get_or s i (pos 0)) = search rules in
     let text = spelt s i in
     let room : c.args.at ≤ length c.args.out.now = omega (arith, c.requires) in
-    let written = overwritten_on c.args.at xs text (xs ++ text) c.args.out.now room refl c.loop-literal.invariant.2 c.loop-literal.invariant.3 c.put-literal-end.ensures.after in
-    let end : c.put-literal-end.result ≡ c.args.at + length (xs ++ text) = omega (arith, c.put-literal-end.ensures.ends, c.loop-literal.invariant.3, length-append xs text) in (
+    let written = overwritten_on c.args.at xs text (xs ++ text) c.args.out.now room refl c.loop-literal.invariant.2 c.loop-literal.invariant.3 c.put_literal-end.ensures.after in
+    let end : c.put_literal-end.result ≡ c.args.at + length (xs ++ text) = omega (arith, c.put_literal-end.ensures.ends, c.loop-literal.invariant.3, length-append xs text) in (
       (xs ++ text) ++ 32 ∷ [],
       append_assoc (xs ++ text) (32 ∷ []) (row_of (drop (i + 1) s)) ∙ append_assoc xs text (32 ∷ row_of (drop (i + 1) s)) ∙ ap (λ ys. xs ++ ys) (row_next s i c.loop-literal-test.true f) ∙ c.loop-literal.invariant.1,
-      overwritten_on c.args.at (xs ++ text) (32 ∷ []) ((xs ++ text) ++ 32 ∷ []) c.args.out.now room refl written end c.put-byte-to.ensures.after,
-      omega (arith, c.put-byte-to.ensures.ends, end, length-append (xs ++ text) (32 ∷ [])),
+      overwritten_on c.args.at (xs ++ text) (32 ∷ []) ((xs ++ text) ++ 32 ∷ []) c.args.out.now room refl written end c.put_byte-to.ensures.after,
+      omega (arith, c.put_byte-to.ensures.ends, end, length-append (xs ++ text) (32 ∷ [])),
     )
 
-pub put-byte-last-requires : goal.put-byte-last-requires
-put-byte-last-requires c =
+pub put_byte-last-requires : goal.put_byte-last-requires
+put_byte-last-requires c =
     let s = c.args.clause.now in
     let i = c.loop-literal.literal-index in
     omega (arith, c.requires, c.loop-literal.invariant.3, c.loop-literal.auto.out, left_size s i c.loop-literal.invariant.0 c.loop-literal.invariant.1, ap length (row_last s i c.loop-literal-test.false))
 
-pub put-byte-requires : goal.put-byte-requires
-put-byte-requires c =
+pub put_byte-requires : goal.put_byte-requires
+put_byte-requires c =
     let s = c.args.clause.now in
     let i = c.loop-literal.literal-index in
-    omega (arith, c.requires, c.loop-literal.invariant.3, c.loop-literal.auto.out, c.put-byte-last.auto.out, c.put-byte-last.ensures.ends, left_size s i c.loop-literal.invariant.0 c.loop-literal.invariant.1, ap length (row_last s i c.loop-literal-test.false))
+    omega (arith, c.requires, c.loop-literal.invariant.3, c.loop-literal.auto.out, c.put_byte-last.auto.out, c.put_byte-last.ensures.ends, left_size s i c.loop-literal.invariant.0 c.loop-literal.invariant.1, ap length (row_last s i c.loop-literal-test.false))
 
 pub returns : goal.returns
 returns c =
@@ -81,7 +81,7 @@ returns c =
     let i = c.loop-literal.literal-index in
     let xs = c.loop-literal.invariant.0 in
     let room : c.args.at ≤ length c.args.out.now = omega (arith, c.requires) in
-    let zero = overwritten_on c.args.at xs (48 ∷ []) (xs ++ 48 ∷ []) c.args.out.now room refl c.loop-literal.invariant.2 c.loop-literal.invariant.3 c.put-byte-last.ensures.after in
-    let end : c.put-byte-last.result ≡ c.args.at + length (xs ++ 48 ∷ []) = omega (arith, c.put-byte-last.ensures.ends, c.loop-literal.invariant.3, length-append xs (48 ∷ [])) in
+    let zero = overwritten_on c.args.at xs (48 ∷ []) (xs ++ 48 ∷ []) c.args.out.now room refl c.loop-literal.invariant.2 c.loop-literal.invariant.3 c.put_byte-last.ensures.after in
+    let end : c.put_byte-last.result ≡ c.args.at + length (xs ++ 48 ∷ []) = omega (arith, c.put_byte-last.ensures.ends, c.loop-literal.invariant.3, length-append xs (48 ∷ [])) in
     let whole = append_assoc xs (48 ∷ []) (10 ∷ []) ∙ ap (λ ys. xs ++ ys) (row_last s i c.loop-literal-test.false) ∙ c.loop-literal.invariant.1 in
-    overwritten_on c.args.at (xs ++ 48 ∷ []) (10 ∷ []) (row_of s) c.args.out.now room whole zero end c.put-byte.ensures.after
+    overwritten_on c.args.at (xs ++ 48 ∷ []) (10 ∷ []) (row_of s) c.args.out.now room whole zero end c.put_byte.ensures.after

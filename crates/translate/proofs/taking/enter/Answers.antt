@@ -15,8 +15,8 @@ same_check : (n : ℕ) (h : LineRecord) (ts : List Term) (o : Option LineFault) 
 same_check n h ts o e fits found =
     ap (λ us. line_check n (record { relation = h.relation; bound = h.bound; terms = us })) (sym e) ∙ simp to_z-of_z at found
 
-pub fault-offset-offset-requires : goal.fault-offset-offset-requires
-fault-offset-offset-requires c =
+pub fault_offset-offset-requires : goal.fault_offset-offset-requires
+fault_offset-offset-requires c =
     let h = c.args.line.now in
     let fits : SFits w32 h.bound = search rules in
     let here = same_check _ h _ _ c.terms.ensures fits c.in-Err.ensures.fault_is in
@@ -27,4 +27,4 @@ returns-in-Err c =
     let h = c.args.line.now in
     let fits : SFits w32 h.bound = search rules in
     let here = same_check _ h _ _ c.terms.ensures fits c.in-Err.ensures.fault_is in
-    record { cause = inl (c.in-Err.fault, here, c.from.ensures ∙ ap (λ at. LineAt at c.in-Err.fault) c.fault-offset-offset.ensures) }
+    record { cause = inl (c.in-Err.fault, here, c.from.ensures ∙ ap (λ at. LineAt at c.in-Err.fault) c.fault_offset-offset.ensures) }

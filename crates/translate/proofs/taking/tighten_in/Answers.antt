@@ -1,5 +1,5 @@
 -- What is tightened is the front of the table, and what is left of it stands there.
-use Rattle.std.proofs.Common.{◌≡◌, ◌-◌, ◌≤◌, length, take, sym, ap, ◌∙◌, arith}
+use Rattle.std.proofs.Common.{◌≡◌, ◌-◌, take, sym, ap, ◌∙◌, arith}
 use Rattle.std.proofs.lemmas.List.{take-append-le, length-take}
 use Rattle.pb.specs.Tightened.{tightened}
 use Rattle.translate.proofs.taking.tighten_in.Goals as goal

@@ -1,5 +1,5 @@
 -- A line that is entered moves the run on, whatever comes of writing it; one that is not ends it.
-use Rattle.std.proofs.Common.{◌≡◌, ℕ, ◌+◌, ◌-◌, true, false, not, List, length, take, Some, sym, refl, ap, ◌∙◌, arith}
+use Rattle.std.proofs.Common.{◌≡◌, ℕ, ◌+◌, ◌-◌, not, List, length, take, Some, sym, refl, ap, ◌∙◌, arith}
 use Rattle.std.proofs.lemmas.Result.{err_from_is_err_and}
 use Rattle.pb.specs.declared.working.Head.{Head}
 use Rattle.pb.specs.declared.working.Weighted.{Weighted}
@@ -16,13 +16,13 @@ use Rattle.schedule.specs.Held.{line_of}
 use Rattle.translate_sheets.proofs.Steps.{goes_on, goes_on_writing, stops_writing, stopped_before, ends_with, grew_none}
 use Rattle.translate_sheets.proofs.taking.take_line.Goals as goal
 
-pub returns-in-err-normal : goal.returns-in-err-normal
-returns-in-err-normal g c =
-    let p = err_from_is_err_and c.from-residual.result c.from-residual.ensures.1 in
+pub returns-in_err-normal : goal.returns-in_err-normal
+returns-in_err-normal g c =
+    let p = err_from_is_err_and c.from_residual.result c.from_residual.ensures.1 in
     record {
       stays = record { rule = refl; same = refl; kept = λ ok. ok };
       grew = grew_none (g.S.Sheet.held c.args.sheet.now);
-      cases = rw (p.1, p.2) (ends_with (g.S.Sheet.fits c.args.sheet.now) _ _ _ _ _ _ c.in-err-normal.ensures);
+      cases = rw (p.1, p.2) (ends_with (g.S.Sheet.fits c.args.sheet.now) _ _ _ _ _ _ c.in_err-normal.ensures);
     }
 
 -- what is written is the tightened normal form, and stands in the front of the table
@@ -37,14 +37,14 @@ by_encoding most fits number p w e = ap (λ m. write_by (up_to m direct_encoding
 
 pub returns-in-Ok : goal.returns-in-Ok
 returns-in-Ok g c =
-    let entered = c.in-ok-normal.ensures in
+    let entered = c.in_ok-normal.ensures in
     let l = line_of c.args.line.now in
     let fits = g.S.Sheet.fits c.args.sheet.now in
     let held = g.S.Sheet.held c.args.sheet.now in
     let after = g.S.Sheet.held c.write.new.sheet in
-    let none = c.is-none.ensures ∙ ap not c.if-is-none.true in
-    let form = front c.args.variables.count l c.in-ok-normal.normal c.tighten-in-sense.result c.enter.new.form c.tighten-in-sense.new.form entered.normal_form c.tighten-in-sense.ensures.0 in
-    let wrote = goes_on_writing fits (c.args.run.now.held + 1) c.args.run.now.refused (progress c.args.run.now held) (record { held = after; numbers = c.in-Ok.numbers }) _ _ none form (by_encoding c.by-terms.result.most fits _ _ _ c.by-terms.ensures ∙ c.in-Ok.ensures.cases) in
+    let none = c.is_none.ensures ∙ ap not c.if-is_none.true in
+    let form = front c.args.variables.count l c.in_ok-normal.normal c.tighten_in-sense.result c.enter.new.form c.tighten_in-sense.new.form entered.normal_form c.tighten_in-sense.ensures.0 in
+    let wrote = goes_on_writing fits (c.args.run.now.held + 1) c.args.run.now.refused (progress c.args.run.now held) (record { held = after; numbers = c.in-Ok.numbers }) _ _ none form (by_encoding c.by_terms.result.most fits _ _ _ c.by_terms.ensures ∙ c.in-Ok.ensures.cases) in
     record {
       stays = c.write.ensures.stays;
       grew = c.write.ensures.grew;
@@ -53,27 +53,27 @@ returns-in-Ok g c =
 
 pub returns-in-Err : goal.returns-in-Err
 returns-in-Err g c =
-    let entered = c.in-ok-normal.ensures in
+    let entered = c.in_ok-normal.ensures in
     let l = line_of c.args.line.now in
     let fits = g.S.Sheet.fits c.args.sheet.now in
     let held = g.S.Sheet.held c.args.sheet.now in
     let after = g.S.Sheet.held c.write.new.sheet in
-    let none = c.is-none.ensures ∙ ap not c.if-is-none.true in
-    let form = front c.args.variables.count l c.in-ok-normal.normal c.tighten-in-sense.result c.enter.new.form c.tighten-in-sense.new.form entered.normal_form c.tighten-in-sense.ensures.0 in
-    let wrote = stops_writing fits (c.args.run.now.held + 1) c.args.run.now.refused (progress c.args.run.now held) (record { held = after; numbers = c.args.run.now.numbers }) _ _ c.in-Err.refusal none form (by_encoding c.by-terms.result.most fits _ _ _ c.by-terms.ensures ∙ c.in-Err.ensures.cases) in
+    let none = c.is_none.ensures ∙ ap not c.if-is_none.true in
+    let form = front c.args.variables.count l c.in_ok-normal.normal c.tighten_in-sense.result c.enter.new.form c.tighten_in-sense.new.form entered.normal_form c.tighten_in-sense.ensures.0 in
+    let wrote = stops_writing fits (c.args.run.now.held + 1) c.args.run.now.refused (progress c.args.run.now held) (record { held = after; numbers = c.args.run.now.numbers }) _ _ c.in-Err.refusal none form (by_encoding c.by_terms.result.most fits _ _ _ c.by_terms.ensures ∙ c.in-Err.ensures.cases) in
     record {
       stays = c.write.ensures.stays;
       grew = c.write.ensures.grew;
       cases = goes_on fits c.args.variables.count c.args.run.now held after l c.args.line.now.offset _ c.args.run.now.numbers (Some c.in-Err.refusal) entered.fine entered.line_free entered.terms_free (ap length c.terms.ensures) wrote;
     }
 
-pub returns-else-is-none : goal.returns-else-is-none
-returns-else-is-none g c =
-    let entered = c.in-ok-normal.ensures in
+pub returns-else-is_none : goal.returns-else-is_none
+returns-else-is_none g c =
+    let entered = c.in_ok-normal.ensures in
     let l = line_of c.args.line.now in
     let fits = g.S.Sheet.fits c.args.sheet.now in
     let held = g.S.Sheet.held c.args.sheet.now in
-    let some = c.is-none.ensures ∙ ap not c.if-is-none.false in
+    let some = c.is_none.ensures ∙ ap not c.if-is_none.false in
     let before = stopped_before fits (c.args.run.now.held + 1) c.args.run.now.refused _ (working_form c.args.variables.count l) some in
     record {
       stays = record { rule = refl; same = refl; kept = λ ok. ok };

@@ -9,11 +9,11 @@ use Rattle.order.proofs.matrix.Matrix.counted.Goals.{Else-i-eq0}
 small : (c : goal.Else-i-eq0) → c.args.self.now.first + ((c.args.i - 1) * c.args.self.now.columns + (c.args.j - 1)) < 2 ^ 17
 small c = number_small c.args.self.now c.args.i c.args.j c.if-i-eq0.false c.if-j-eq0.false c.requires (search rules)
 
-pub overflow-add-result : goal.overflow-add-result
-overflow-add-result c = let h = small (goal.at.overflow-add-result c).Else-i-eq0 in search rules
+pub overflow_add-result : goal.overflow_add-result
+overflow_add-result c = let h = small (goal.at.overflow_add-result c).Else-i-eq0 in search rules
 
-pub overflow-cast-result : goal.overflow-cast-result
-overflow-cast-result c = let h = small (goal.at.overflow-cast-result c).Else-i-eq0 in search rules
+pub overflow_cast-result : goal.overflow_cast-result
+overflow_cast-result c = let h = small (goal.at.overflow_cast-result c).Else-i-eq0 in search rules
 
 pub returns-else-i-eq0 : goal.returns-else-i-eq0
 returns-else-i-eq0 c =

@@ -10,8 +10,8 @@ use Rattle.order.proofs.matrix.Matrix.give_cell.Given.{Over}
 use Rattle.order.proofs.matrix.Matrix.give_cell.Goals as goal
 use Rattle.order.proofs.matrix.Matrix.give_cell.Goals.{After-from-literal}
 
-pub overflow-add-i : goal.overflow-add-i
-overflow-add-i g c =
+pub overflow_add-i : goal.overflow_add-i
+overflow_add-i g c =
     let m = c.args.self.now in
     let rows : length m.line.terms.now * 1 ≤ length m.line.terms.now * m.columns = mul-le (length m.line.terms.now) 1 _ _ (omega arith) (omega (arith, c.requires)) in
     let few = m.few in
@@ -22,38 +22,38 @@ abbrev coded : ℤ → ℤ
 coded z = to_z w32 (of_z w32 z)
 
 start : (g : Over) (c : goal.After-from-literal g) → Way g.S.Sheet c.args.sheet.now c.args.sheet.now (cell c.args.self.now.first c.args.self.now.columns c.args.i c.args.j c.args.term)
-    (of_parts (c.opposite-not-above.result ∷ c.counted-here.result ∷ [])
-    ++ (of_parts (Literal (coded (pos 0 -ℤ coded c.from-literal.result)) ∷ c.opposite-not-before.result ∷ c.counted-here.result ∷ [])
-    ++ (of_parts (Literal (coded c.from-literal.result) ∷ c.counted-above.result ∷ c.opposite-not-here.result ∷ [])
-    ++ of_parts (c.counted-before.result ∷ c.opposite-not-here.result ∷ []))))
+    (of_parts (c.opposite-not_above.result ∷ c.counted-here.result ∷ [])
+    ++ (of_parts (Literal (coded (pos 0 -ℤ coded c.from-literal.result)) ∷ c.opposite-not_before.result ∷ c.counted-here.result ∷ [])
+    ++ (of_parts (Literal (coded c.from-literal.result) ∷ c.counted-above.result ∷ c.opposite-not_here.result ∷ [])
+    ++ of_parts (c.counted-before.result ∷ c.opposite-not_here.result ∷ []))))
 start g c =
     let m = c.args.self.now in
     let t = c.args.term in
-    let before = c.counted-before.ensures.value ∙ ap (counted m.first m.columns c.args.i) c.saturating-sub.ensures in
+    let before = c.counted-before.ensures.value ∙ ap (counted m.first m.columns c.args.i) c.saturating_sub.ensures in
     let fits : SFits w16 t.literal = search rules in
     let it : coded c.from-literal.result ≡ t.literal = omega (arith, ints) in
     let its-complement : coded (pos 0 -ℤ coded c.from-literal.result) ≡ neg_ℤ t.literal = omega (arith, ints) in
-    let four = cell_of_parts m.first m.columns c.args.i c.args.j t _ _ _ c.counted-here.ensures.value c.counted-above.ensures.value before _ _ _ _ _ c.opposite-not-here.ensures c.opposite-not-above.ensures c.opposite-not-before.ensures it its-complement in
+    let four = cell_of_parts m.first m.columns c.args.i c.args.j t _ _ _ c.counted-here.ensures.value c.counted-above.ensures.value before _ _ _ _ _ c.opposite-not_here.ensures c.opposite-not_above.ensures c.opposite-not_before.ensures it its-complement in
     way_same four (way_start c.args.sheet.now _)
 
-pub returns-in-err-give-parts : goal.returns-in-err-give-parts
-returns-in-err-give-parts g c =
-    way_exits _ _ _ (start g (goal.at.returns-in-err-give-parts g c).After-from-literal) c.in-err-give-parts.ensures c.from-residual.ensures.1
+pub returns-in_err-give_parts : goal.returns-in_err-give_parts
+returns-in_err-give_parts g c =
+    way_exits _ _ _ (start g (goal.at.returns-in_err-give_parts g c).After-from-literal) c.in_err-give_parts.ensures c.from_residual.ensures.1
 
-pub returns-in-err-give-parts-2 : goal.returns-in-err-give-parts-2
-returns-in-err-give-parts-2 g c =
-    let on = way_on _ (start g (goal.at.returns-in-err-give-parts-2 g c).After-from-literal) c.in-ok-give-parts.ensures in
-    way_exits _ _ _ on c.in-err-give-parts-2.ensures c.from-residual-in-err-give-parts-2.ensures.1
+pub returns-in_err-give_parts-2 : goal.returns-in_err-give_parts-2
+returns-in_err-give_parts-2 g c =
+    let on = way_on _ (start g (goal.at.returns-in_err-give_parts-2 g c).After-from-literal) c.in_ok-give_parts.ensures in
+    way_exits _ _ _ on c.in_err-give_parts-2.ensures c.from_residual-in_err-give_parts-2.ensures.1
 
-pub returns-in-err-give-parts-3 : goal.returns-in-err-give-parts-3
-returns-in-err-give-parts-3 g c =
-    let on = way_on _ (start g (goal.at.returns-in-err-give-parts-3 g c).After-from-literal) c.in-ok-give-parts.ensures in
-    let on-2 = way_on _ on c.in-ok-give-parts-2.ensures in
-    way_exits _ _ _ on-2 c.in-err-give-parts-3.ensures c.from-residual-in-err-give-parts-3.ensures.1
+pub returns-in_err-give_parts-3 : goal.returns-in_err-give_parts-3
+returns-in_err-give_parts-3 g c =
+    let on = way_on _ (start g (goal.at.returns-in_err-give_parts-3 g c).After-from-literal) c.in_ok-give_parts.ensures in
+    let on-2 = way_on _ on c.in_ok-give_parts-2.ensures in
+    way_exits _ _ _ on-2 c.in_err-give_parts-3.ensures c.from_residual-in_err-give_parts-3.ensures.1
 
 pub returns : goal.returns
 returns g c =
-    let on = way_on _ (start g (goal.at.returns g c).After-from-literal) c.in-ok-give-parts.ensures in
-    let on-2 = way_on _ on c.in-ok-give-parts-2.ensures in
-    let on-3 = way_on _ on-2 c.in-ok-give-parts-3.ensures in
-    way_last _ on-3 c.give-parts-4.ensures
+    let on = way_on _ (start g (goal.at.returns g c).After-from-literal) c.in_ok-give_parts.ensures in
+    let on-2 = way_on _ on c.in_ok-give_parts-2.ensures in
+    let on-3 = way_on _ on-2 c.in_ok-give_parts-3.ensures in
+    way_last _ on-3 c.give_parts-4.ensures

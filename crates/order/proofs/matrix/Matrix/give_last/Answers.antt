@@ -9,4 +9,4 @@ returns-in-Exactly g c =
     let m = c.args.self.now in
     let n = length m.line.terms.now in
     let two = exactly_of_parts m.first m.columns n m.line.bound m.line.sense c.counted.result c.counted-in-Exactly.result c.opposite.result c.in-Exactly.is c.counted.ensures.value c.counted-in-Exactly.ensures.value c.opposite.ensures in
-    way_last _ (way_on _ (way_same two (way_start c.args.sheet.now _)) c.in-ok-give-parts.ensures) c.give-parts-in-Exactly.ensures
+    way_last _ (way_on _ (way_same two (way_start c.args.sheet.now _)) c.in_ok-give_parts.ensures) c.give_parts-in-Exactly.ensures

@@ -10,23 +10,20 @@ pub returns-then-count-self : goal.returns-then-count-self
 returns-then-count-self c =
     record { full = no_count (page_of c.args.self.now) c.args.clause.now (omega arith); same = refl; fault = refl }
 
-pub invariant-of-self : goal.invariant-of-self
-invariant-of-self c =
+pub invariant_of-self : goal.invariant_of-self
+invariant_of-self c =
     let s = c.args.self.now in
     let text = take s.used s.bytes.all.now in
     let clause = c.args.clause.now in
     let p = c.in-Some.ensures in
     let n : length text ≡ s.used = length-take-le _ _ s.inside in
-    let end : length (text ++ row clause) ≡ c.in-Some.end = omega (arith, p.ends, length-append text (row clause)) in (
-      omega (arith, p.within, p.size),
-      (
-        omega arith,
-        (
-          ap feeds p.front ∙ feeds_more text s.count clause s.counted,
-          (ap (row_end (s.count + 1)) p.front ∙ ends_more text s.count clause s.counted (s.ended ∙ sym n) ∙ end, tt),
-        ),
-      ),
-    )
+    let end : length (text ++ row clause) ≡ c.in-Some.end = omega (arith, p.ends, length-append text (row clause)) in
+    record {
+      inside = omega (arith, p.within, p.size);
+      few = omega arith;
+      counted = ap feeds p.front ∙ feeds_more text s.count clause s.counted;
+      ended = ap (row_end (s.count + 1)) p.front ∙ ends_more text s.count clause s.counted (s.ended ∙ sym n) ∙ end;
+    }
 
 pub returns-in-Some : goal.returns-in-Some
 returns-in-Some c =

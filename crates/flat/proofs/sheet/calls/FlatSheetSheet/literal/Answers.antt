@@ -1,12 +1,11 @@
 -- A clause's cells are its literals and a 0, so that its j-th literal is the j-th of them but for the last.
-use Rattle.std.proofs.Common.{◌≡◌, ℕ, ◌+◌, ◌-◌, ◌<◌, ◌≤◌, [], ◌∷◌, length, get_or, take, ℤ, pos, Some, sym, refl, ap, ◌∙◌, arith, length-append, w32, SFits, rules}
+use Rattle.std.proofs.Common.{◌≡◌, ℕ, ◌+◌, ◌-◌, ◌<◌, ◌≤◌, [], ◌∷◌, length, get_or, take, pos, Some, sym, ap, ◌∙◌, arith, length-append, w32, SFits, rules}
 use Rattle.std.proofs.lemmas.List.Edits.{get_or-between}
 use Rattle.std.proofs.lemmas.List.{get_or_append_left}
 use Rattle.std.proofs.lemmas.Option.{slice_get-get_or, slice_get_past}
 use Rattle.std.proofs.lemmas.Int.{to_z-of_z}
-use Rattle.std.specs.List.{between}
 use Rattle.cnf.specs.Cells.{is_zero, cell_layout}
-use Rattle.cnf.specs.Clauses.{Clause, of_literals, literal_at}
+use Rattle.cnf.specs.Clauses.{Clause, of_literals}
 use Rattle.cnf.specs.Marks.{place_after_mark}
 use Rattle.cnf.proofs.Asking.{no_literal, no_clause, no_such_clause, literal_is}
 use Rattle.cnf.proofs.Fronts.{cut_within, part_is, part_size}
@@ -50,33 +49,33 @@ module _ (s : FlatSheet) (i from to : ℕ) (some : 0 < i) (there : i ≤ s.count
       ∙ ap (λ xs. get_or xs j (pos 0)) (part_is cell_layout cells_faithful (front_of s) (i - 1) from to (of_literals []) (omega arith) starts its_end)
       ∙ get_or_append_left the-clause.literals (pos 0 ∷ []) (pos 0) j h
 
-pub overflow-sub-to : goal.overflow-sub-to
-overflow-sub-to c =
+pub overflow_sub-to : goal.overflow_sub-to
+overflow_sub-to c =
     let s = c.args.self.now in
-    omega (arith, its-size s c.args.i _ _ (omega arith) c.if-i-self.false c.end-of-from.ensures c.end-of-to.ensures)
+    omega (arith, its-size s c.args.i _ _ (omega arith) c.if-i-self.false c.end_of-from.ensures c.end_of-to.ensures)
 
 pub returns-then-j-to : goal.returns-then-j-to
 unfolding the-clause
 returns-then-j-to c =
     let s = c.args.self.now in
-    let size = its-size s c.args.i _ _ (omega arith) c.if-i-self.false c.end-of-from.ensures c.end-of-to.ensures in
+    let size = its-size s c.args.i _ _ (omega arith) c.if-i-self.false c.end_of-from.ensures c.end_of-to.ensures in
     sym (slice_get_past _ (c.args.j - 1) (omega (arith, size))) ∙ literal_is (flat_held s) c.args.i c.args.j (of_literals []) (omega arith) (omega (arith, s.counted)) (omega arith)
 
 pub get-requires : goal.get-requires
 get-requires c =
     let s = c.args.self.now in
     let some : 0 < c.args.i = omega arith in
-    omega (arith, its-size s c.args.i _ _ some c.if-i-self.false c.end-of-from.ensures c.end-of-to.ensures, in_table s c.args.i _ _ some c.if-i-self.false c.end-of-from.ensures c.end-of-to.ensures)
+    omega (arith, its-size s c.args.i _ _ some c.if-i-self.false c.end_of-from.ensures c.end_of-to.ensures, in_table s c.args.i _ _ some c.if-i-self.false c.end_of-from.ensures c.end_of-to.ensures)
 
 pub returns : goal.returns
 unfolding the-clause
 returns c =
     let s = c.args.self.now in
     let some : 0 < c.args.i = omega arith in
-    let size = its-size s c.args.i _ _ some c.if-i-self.false c.end-of-from.ensures c.end-of-to.ensures in
-    let inside : c.args.j - 1 < length (the-clause s c.args.i _ _ some c.if-i-self.false c.end-of-from.ensures c.end-of-to.ensures).literals = omega (arith, size) in
-    let place : c.end-of-from.result + c.args.j - 1 ≡ c.end-of-from.result + (c.args.j - 1) = omega arith in
+    let size = its-size s c.args.i _ _ some c.if-i-self.false c.end_of-from.ensures c.end_of-to.ensures in
+    let inside : c.args.j - 1 < length (the-clause s c.args.i _ _ some c.if-i-self.false c.end_of-from.ensures c.end_of-to.ensures).literals = omega (arith, size) in
+    let place : c.end_of-from.result + c.args.j - 1 ≡ c.end_of-from.result + (c.args.j - 1) = omega arith in
     let f : SFits w32 c.get.result = search rules in
-    ap Some (to_z-of_z w32 c.get.result f ∙ c.get.ensures ∙ ap (λ n. get_or (table s) n (pos 0)) place ∙ its-literal s c.args.i _ _ some c.if-i-self.false c.end-of-from.ensures c.end-of-to.ensures (c.args.j - 1) inside)
+    ap Some (to_z-of_z w32 c.get.result f ∙ c.get.ensures ∙ ap (λ n. get_or (table s) n (pos 0)) place ∙ its-literal s c.args.i _ _ some c.if-i-self.false c.end_of-from.ensures c.end_of-to.ensures (c.args.j - 1) inside)
     ∙ sym (slice_get-get_or _ (c.args.j - 1) (pos 0) inside)
     ∙ literal_is (flat_held s) c.args.i c.args.j (of_literals []) some (omega (arith, s.counted)) (omega arith)

@@ -1,5 +1,5 @@
 -- A clause's row lies between the ends of the row before it and of its own.
-use Rattle.std.proofs.Common.{◌≡◌, ℕ, zero, suc, ◌+◌, ◌-◌, ◌<◌, ◌≤◌, true, List, [], ◌∷◌, length, get_or, take, sym, refl, ap, ◌∙◌, arith}
+use Rattle.std.proofs.Common.{◌≡◌, ℕ, zero, suc, ◌+◌, ◌-◌, ◌<◌, true, List, [], ◌∷◌, length, get_or, take, ap, ◌∙◌, arith}
 use Rattle.std.proofs.lemmas.Bool.{and_parts}
 use Rattle.cnf.specs.Clauses.{Clause, of_literals, literals_formed, well_formed, all_well_formed}
 use Rattle.cnf.specs.Marks.{place_after_mark}
@@ -36,9 +36,9 @@ part-requires c =
     let s = c.args.self.now in
     let i = c.args.i in
     let some : 0 < i = omega arith in
-    let end = its_end (take s.used (memory s)) i _ some c.end-of-to.ensures in
-    let size = part_size text_layout text_faithful (front_of s) (i - 1) _ _ (of_literals []) (omega arith) c.end-of-from.ensures end in
-    (omega (arith, size, some_row (get_or (text_held s) (i - 1) (of_literals [])).literals), omega (arith, s.inside, cut_within text_layout text_faithful (front_of s) i _ c.end-of-to.ensures))
+    let end = its_end (take s.used (memory s)) i _ some c.end_of-to.ensures in
+    let size = part_size text_layout text_faithful (front_of s) (i - 1) _ _ (of_literals []) (omega arith) c.end_of-from.ensures end in
+    (omega (arith, size, some_row (get_or (text_held s) (i - 1) (of_literals [])).literals), omega (arith, s.inside, cut_within text_layout text_faithful (front_of s) i _ c.end_of-to.ensures))
 
 pub returns : goal.returns
 returns c =
@@ -46,7 +46,7 @@ returns c =
     let i = c.args.i in
     let some : 0 < i = omega arith in
     let ls = (get_or (text_held s) (i - 1) (of_literals [])).literals in
-    let end = its_end (take s.used (memory s)) i _ some c.end-of-to.ensures in
-    let row : c.part.result.now ≡ row_of ls = c.part.ensures ∙ part_is text_layout text_faithful (front_of s) (i - 1) _ _ (of_literals []) (omega arith) c.end-of-from.ensures end in
-    c.literal-in.ensures ls row (formed_clause (text_held s) (i - 1) (of_literals []) s.formed (omega (arith, s.counted)))
+    let end = its_end (take s.used (memory s)) i _ some c.end_of-to.ensures in
+    let row : c.part.result.now ≡ row_of ls = c.part.ensures ∙ part_is text_layout text_faithful (front_of s) (i - 1) _ _ (of_literals []) (omega arith) c.end_of-from.ensures end in
+    c.literal_in.ensures ls row (formed_clause (text_held s) (i - 1) (of_literals []) s.formed (omega (arith, s.counted)))
     ∙ literal_is (text_held s) i c.args.j (of_literals []) some (omega (arith, s.counted)) (omega arith)
