@@ -43,17 +43,17 @@ module _ (n first rows c : ℕ) where
       let back = counted first c i (j - t.weight) in
       let next = counted first c (suc i) j in
       let l = on_named n first (rows * c) t on in
-      let not-l = within_opposite (named n first (rows * c)) (literal t.literal) l in
+      let not_l = within_opposite (named n first (rows * c)) (literal t.literal) l in
       let here_in = counted_within n first rows c i j (omega arith) g in
       let back_in = counted_within n first rows c i (j - t.weight) (omega arith) (omega arith) in
-      let next-in = counted_within n first rows c (suc i) j h g in
-      let not-here = opposite_within n first rows c i j (omega arith) g in
+      let next_in = counted_within n first rows c (suc i) j h g in
+      let not_here = opposite_within n first rows c i j (omega arith) g in
       let not_back = opposite_within n first rows c i (j - t.weight) (omega arith) (omega arith) in
-      let not-next = opposite_within n first rows c (suc i) j h g in
-      both_fitting _ _ (parts_fitting (opposite here ∷ next ∷ []) (omega arith) (not-here, (next-in, tt)))
-      (both_fitting _ _ (parts_fitting (literal (neg_ℤ t.literal) ∷ opposite back ∷ next ∷ []) (omega arith) (not-l, (not_back, (next-in, tt))))
-      (both_fitting _ _ (parts_fitting (literal t.literal ∷ here ∷ opposite next ∷ []) (omega arith) (l, (here_in, (not-next, tt))))
-      (parts_fitting (back ∷ opposite next ∷ []) (omega arith) (back_in, (not-next, tt)))))
+      let not_next = opposite_within n first rows c (suc i) j h g in
+      both_fitting _ _ (parts_fitting (opposite here ∷ next ∷ []) (omega arith) (not_here, (next_in, tt)))
+      (both_fitting _ _ (parts_fitting (literal (neg_ℤ t.literal) ∷ opposite back ∷ next ∷ []) (omega arith) (not_l, (not_back, (next_in, tt))))
+      (both_fitting _ _ (parts_fitting (literal t.literal ∷ here ∷ opposite next ∷ []) (omega arith) (l, (here_in, (not_next, tt))))
+      (parts_fitting (back ∷ opposite next ∷ []) (omega arith) (back_in, (not_next, tt)))))
 
   row_fitting : (i j k : ℕ) (t : Weighted) → i < rows → j + k ≤ suc c → OnVariable n t → Fitting n first rows c (row_from first c i j k t)
   row_fitting i j zero t h g on = tt

@@ -1,6 +1,6 @@
 // The parts that clauses are made of, and giving the clause of some.
 ghost use Rattle.std.specs.Prelude.{◌≡◌, ◌≤◌, map, length};
-ghost use Rattle.encode.specs.Order.{opposite as opposite-of, clause_of};
+ghost use Rattle.encode.specs.Order.{opposite as opposite_of, clause_of};
 ghost use Rattle.order.specs.Parts.{meant, Plain, Within, gathered};
 ghost use Rattle.cnf.specs.Sheets.{Poured};
 
@@ -19,7 +19,7 @@ impl Part {
     // What holds just where this part does not.
     pub(crate) fn opposite(self) -> Part
         requires { Plain self }
-        ensures { meant result ≡ opposite-of (meant self) }
+        ensures { meant result ≡ opposite_of (meant self) }
     {
         match self {
             Part::Literal(literal) => Part::Literal(-literal),

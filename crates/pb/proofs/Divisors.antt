@@ -83,5 +83,5 @@ divisor_divided ts h =
     let d = divisor_of ts in
     let e = divisor_of (divided d ts) in
     let p : e * d ∣ d = divisor_greatest (e * d) ts (common_times d e ts (divisor_common ts) (divisor_common (divided d ts))) in
-    let one-times : d ≡ 1 * d = omega arith in
-    eq-one_of_dvd-one (dvd_of_mul-dvd-mul_right e h (subst (λ x. e * d ∣ x) one-times p))
+    let one_times : d ≡ 1 * d = omega arith in
+    eq-one_of_dvd-one (dvd_of_mul-dvd-mul_right e h (subst (λ x. e * d ∣ x) one_times p))

@@ -1,7 +1,7 @@
 // The first literal that a working line forces.
 ghost use Rattle.std.specs.Prelude.{◌≡◌};
 ghost use Rattle.pb.specs.Laws.{ForcedHolds, ForcedNamed, ForcedNone};
-ghost use Rattle.pb.specs.Settled.{forced as forced-of, forced_least, forced_exactly};
+ghost use Rattle.pb.specs.Settled.{forced as forced_of, forced_least, forced_exactly};
 
 use crate::sums::total;
 use pb::working::{Sense, Weighted, WorkingLine};
@@ -39,7 +39,7 @@ fn first_settled(sum: u128, bound: u128, terms: &[Weighted]) -> Option<i32>
 // The first literal in term order that holds in every assignment that meets the line, as far as
 // one weight and the sum of the others tell; nothing where the weights do not reach the bound.
 pub fn forced(line: WorkingLine<'_>) -> Option<i32>
-    ensures value { result ≡ forced-of (record { sense = line.entry.sense; bound = line.entry.bound; terms = line.entry.terms.now }) }
+    ensures value { result ≡ forced_of (record { sense = line.entry.sense; bound = line.entry.bound; terms = line.entry.terms.now }) }
     ensures holds { ForcedHolds }
     ensures named { ForcedNamed }
     ensures none { ForcedNone }

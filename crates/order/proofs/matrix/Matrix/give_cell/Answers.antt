@@ -32,8 +32,8 @@ start g c =
     let before = c.counted-before.ensures.value ∙ ap (counted m.first m.columns c.args.i) c.saturating_sub.ensures in
     let fits : SFits w16 t.literal = search rules in
     let it : coded c.from-literal.result ≡ t.literal = omega (arith, ints) in
-    let its-complement : coded (pos 0 -ℤ coded c.from-literal.result) ≡ neg_ℤ t.literal = omega (arith, ints) in
-    let four = cell_of_parts m.first m.columns c.args.i c.args.j t _ _ _ c.counted-here.ensures.value c.counted-above.ensures.value before _ _ _ _ _ c.opposite-not_here.ensures c.opposite-not_above.ensures c.opposite-not_before.ensures it its-complement in
+    let its_complement : coded (pos 0 -ℤ coded c.from-literal.result) ≡ neg_ℤ t.literal = omega (arith, ints) in
+    let four = cell_of_parts m.first m.columns c.args.i c.args.j t _ _ _ c.counted-here.ensures.value c.counted-above.ensures.value before _ _ _ _ _ c.opposite-not_here.ensures c.opposite-not_above.ensures c.opposite-not_before.ensures it its_complement in
     way_same four (way_start c.args.sheet.now _)
 
 pub returns-in_err-give_parts : goal.returns-in_err-give_parts
