@@ -6,8 +6,8 @@ ghost use Rattle.encode.proofs.Choosing.{up_to_lawful};
 ghost use Rattle.encode.specs.Choice.{up_to};
 
 use cnf::sheet::Sheet;
+use encode::encode_fault::EncodeFault;
 use encode::encoder::Encoder;
-use encode::fault::EncodeFault;
 use pb::working::WorkingLine;
 
 #[derive(Clone, Copy)]

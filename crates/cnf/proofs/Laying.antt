@@ -2,7 +2,7 @@
 use Rattle.std.proofs.Common.{◌≡◌, ℕ, zero, suc, ◌+◌, ◌<◌, ◌≤◌, true, false, List, [], ◌∷◌, ◌++◌, length, get_or, take, sym, refl, ap, ◌∙◌, arith, length-append, length-take}
 use Rattle.std.proofs.lemmas.List.{length_push, length-take-le}
 use Rattle.std.proofs.lemmas.Bool.{and_parts, and_from, le-leb, lt-leb, leb-true}
-use Rattle.std.specs.List.{between, AllByRecursion as All}
+use Rattle.std.specs.List.{between, AllByRecursion}
 use Rattle.cnf.specs.Calls.{Begins}
 use Rattle.cnf.specs.Clauses.{Clause, well_formed, all_well_formed}
 use Rattle.cnf.specs.Layouts.{Layout, Faithful, Shows, written, has_room}
@@ -28,7 +28,7 @@ module _ {X : Type 0} (layout : Layout X) where
   front_room all used shown = le-leb _ _ (omega (arith, ap length shown, length-take used all))
 
   module _ (lay : Faithful layout) where
-    parts : (cs : List Clause) → all_well_formed cs ≡ true → All (λ c. IsPart layout.mark (layout.write c)) cs
+    parts : (cs : List Clause) → all_well_formed cs ≡ true → AllByRecursion (λ c. IsPart layout.mark (layout.write c)) cs
     parts [] h = tt
     parts (c ∷ cs) h = let p = and_parts _ _ h in (lay.part c p.0, parts cs p.1)
 

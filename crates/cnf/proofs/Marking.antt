@@ -2,7 +2,7 @@
 -- do.
 use Rattle.std.proofs.Common.{◌≡◌, ℕ, zero, suc, ◌+◌, ◌-◌, ◌<◌, ◌≤◌, Bool, true, false, cond, List, [], ◌∷◌, ◌++◌, length, get_or, take, drop, sym, refl, ap, ◌∙◌, append_assoc, append-nil, arith, length-append}
 use Rattle.std.proofs.lemmas.List.{at_drop_more, at_drop_all, take-append-drop, take_at, take_all, drop_at, take_more, drop_more}
-use Rattle.std.specs.List.{between, flat_map, AllByRecursion as All}
+use Rattle.std.specs.List.{between, flat_map, AllByRecursion}
 use Rattle.cnf.specs.Marks.{marks, place_after_mark, IsPart}
 
 module _ {X : Type 0} (mark : X → Bool) where
@@ -47,7 +47,7 @@ module _ {X : Type 0} (mark : X → Bool) where
       ]
 
   -- there are no more parts than elements
-  pub parts_long : {Y : Type 0} (f : Y → List X) (ys : List Y) → All (λ y. IsPart mark (f y)) ys → length ys ≤ length (flat_map f ys)
+  pub parts_long : {Y : Type 0} (f : Y → List X) (ys : List Y) → AllByRecursion (λ y. IsPart mark (f y)) ys → length ys ≤ length (flat_map f ys)
   parts_long f [] h = omega arith
   parts_long f (y ∷ ys) h = omega (arith, parts_long f ys h.1, marks_within (f y), h.0.one, length-append (f y) (flat_map f ys))
 
@@ -88,7 +88,7 @@ module _ {X : Type 0} (mark : X → Bool) where
       only (z ∷ zs) h = absurd (omega arith)
 
   -- parts joined one after another, and a rest: the k-th part ends where the first k do, and then come those of the rest
-  pub after_parts : {Y : Type 0} (f : Y → List X) (k : ℕ) (ys : List Y) (rest : List X) → All (λ y. IsPart mark (f y)) ys → place_after_mark mark k (flat_map f ys ++ rest) ≡ length (flat_map f (take k ys)) + place_after_mark mark (k - length ys) rest
+  pub after_parts : {Y : Type 0} (f : Y → List X) (k : ℕ) (ys : List Y) (rest : List X) → AllByRecursion (λ y. IsPart mark (f y)) ys → place_after_mark mark k (flat_map f ys ++ rest) ≡ length (flat_map f (take k ys)) + place_after_mark mark (k - length ys) rest
   after_parts f k [] rest h =
       ap (λ n. place_after_mark mark n rest) (let e : k ≡ k - 0 = omega arith in e)
       ∙ omega (arith, ap (λ ys. length (flat_map f ys)) (take_all k [] (omega arith)))
@@ -97,7 +97,7 @@ module _ {X : Type 0} (mark : X → Bool) where
       ap (place_after_mark mark (suc k)) (append_assoc (f y) (flat_map f ys) rest) ∙ after_part k (f y) (flat_map f ys ++ rest) h.0.one h.0.last
       ∙ omega (arith, after_parts f k ys rest h.1, length-append (f y) (flat_map f (take k ys)), ap (λ n. place_after_mark mark n rest) (let e : suc k - suc (length ys) ≡ k - length ys = omega arith in e))
 
-  pub after_joined : {Y : Type 0} (f : Y → List X) (k : ℕ) (ys : List Y) → All (λ y. IsPart mark (f y)) ys → place_after_mark mark k (flat_map f ys) ≡ length (flat_map f (take k ys))
+  pub after_joined : {Y : Type 0} (f : Y → List X) (k : ℕ) (ys : List Y) → AllByRecursion (λ y. IsPart mark (f y)) ys → place_after_mark mark k (flat_map f ys) ≡ length (flat_map f (take k ys))
   after_joined f k ys h =
       ap (place_after_mark mark k) (sym (append-nil (flat_map f ys))) ∙ after_parts f k ys [] h ∙ omega (arith, after_within (k - length ys) [])
 

@@ -2,7 +2,7 @@
 ghost use Rattle.text.specs.Pages.{page_of};
 ghost use Rattle.direct.specs.Encoding.{Encodes};
 
-use crate::fault::EncodeFault;
+use crate::encode_fault::EncodeFault;
 use crate::listing;
 use crate::sets::MOST_TERMS;
 use fault::sheet::SheetFault;

@@ -1,5 +1,5 @@
+use crate::encode_fault::EncodeFault;
 use crate::encoder::encode;
-use crate::fault::EncodeFault;
 use fault::sheet::SheetFault;
 use pb::working::{Sense, Weighted, WorkingLine};
 use text::sheet::TextSheet;

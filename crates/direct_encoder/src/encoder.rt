@@ -10,8 +10,8 @@ use crate::listing::LeastSets;
 use crate::sets::MOST_TERMS;
 use cnf::listing::give_all;
 use cnf::sheet::Sheet;
+use encode::encode_fault::EncodeFault;
 use encode::encoder::Encoder;
-use encode::fault::EncodeFault;
 use pb::working::WorkingLine;
 
 #[derive(Clone, Copy)]

@@ -1,6 +1,6 @@
 -- The clauses of the direct encoder have few literals, each of a variable of the line.
 use Rattle.std.proofs.Common.{◌≡◌, ℕ, suc, ◌-◌, ◌/◌, ◌≤◌, Bool, true, false, cond, List, [], ◌∷◌, ◌++◌, length, ℤ, nat_abs, refl, ap, ◌∙◌, arith}
-use Rattle.std.specs.List.{AllByRecursion as All}
+use Rattle.std.specs.List.{AllByRecursion}
 use Rattle.std.proofs.ByRecursion.{All-append, All-weaker}
 use Rattle.std.proofs.lemmas.Bool.{and_from, leb-true}
 use Rattle.cnf.specs.Clauses.{Clause, of_literals, literals_within}
@@ -38,19 +38,19 @@ module _ (p : ℕ → Bool) where
   first_within true l ls e h = and_from _ _ e h
   first_within false l ls e h = h
 
-  chosen_within : (flip : Bool) (ts : List Weighted) (mask : ℕ) → All (λ t. p (nat_abs t.literal) ≡ true) ts → literals_within p (chosen flip ts mask) ≡ true
+  chosen_within : (flip : Bool) (ts : List Weighted) (mask : ℕ) → AllByRecursion (λ t. p (nat_abs t.literal) ≡ true) ts → literals_within p (chosen flip ts mask) ≡ true
   chosen_within flip [] mask h = refl
   chosen_within flip (t ∷ ts) mask h =
       first_within (has_first mask) (flipped flip t.literal) (chosen flip ts (mask / 2)) (ap p (flipped_variable flip t.literal) ∙ h.0) (chosen_within flip ts (mask / 2) h.1)
 
 -- what holds of the clause of each set holds of each clause of a line
-direct_each : (P : Clause → Type 0) (s : Sense) (bound : ℕ) (ts : List Weighted) → ((flip : Bool) (mask : ℕ) → P (of_literals (chosen flip ts mask))) → All P (direct_clauses s bound ts)
+direct_each : (P : Clause → Type 0) (s : Sense) (bound : ℕ) (ts : List Weighted) → ((flip : Bool) (mask : ℕ) → P (of_literals (chosen flip ts mask))) → AllByRecursion P (direct_clauses s bound ts)
 direct_each P AtLeast bound ts h = listed_each false ts bound P (h false)
 direct_each P Exactly bound ts h =
     let rest = weight_sum ts - bound in
     All-append P (listed false ts bound) (listed true ts rest) (listed_each false ts bound P (h false)) (listed_each true ts rest P (h true))
 
-pub direct_fitting : (n first : ℕ) (w : Working) → InReach direct_encoding n first w → All (Neat (named n first 0)) (direct_list w first)
+pub direct_fitting : (n first : ℕ) (w : Working) → InReach direct_encoding n first w → AllByRecursion (Neat (named n first 0)) (direct_list w first)
 direct_fitting n first w h =
     let p = named n first 0 in
     let ts = w.terms in

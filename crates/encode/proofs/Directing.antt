@@ -1,7 +1,7 @@
 -- The direct encoder keeps its law: its first list says that the terms count the bound or more, and for "exactly" its
 -- second says that their complements count what the bound leaves of the sum or more.
 use Rattle.std.proofs.Common.{◌≡◌, ℕ, ◌+◌, ◌-◌, ◌≤◌, Bool, true, false, cond, not, ◌&&◌, leb, List, [], ◌∷◌, sym, refl, ap, ◌∙◌, arith}
-use Rattle.std.specs.List.{AllByRecursion as All}
+use Rattle.std.specs.List.{AllByRecursion}
 use Rattle.std.proofs.lemmas.Bool.Decides.{nat_tests}
 use Rattle.cnf.specs.Clauses.{satisfies_all}
 use Rattle.cnf.proofs.Satisfying.{satisfies_append}
@@ -26,7 +26,7 @@ either_counts : (b : Bool) (w : ℕ) → cond (not b) w 0 + cond b w 0 ≡ w
 either_counts true w = omega arith
 either_counts false w = omega arith
 
-both_count : (n : ℕ) (v : Assignment) (ts : List Weighted) → All (OnVariable n) ts → counted true v ts + counted false v ts ≡ weight_sum ts
+both_count : (n : ℕ) (v : Assignment) (ts : List Weighted) → AllByRecursion (OnVariable n) ts → counted true v ts + counted false v ts ≡ weight_sum ts
 both_count n v [] h = refl
 both_count n v (t ∷ ts) h =
     let e = both_count n v ts h.1 in
@@ -37,7 +37,7 @@ both_count n v (t ∷ ts) h =
 exactly_both : (count other sum bound : ℕ) → other + count ≡ sum → (leb bound count && leb (sum - bound) other) ≡ reaches Exactly count bound
 exactly_both count other sum bound e = grind (arith, nat_tests)
 
-direct_satisfied : (n : ℕ) (v : Assignment) (s : Sense) (bound : ℕ) (ts : List Weighted) → All (OnVariable n) ts → satisfies_all v (direct_clauses s bound ts) ≡ reaches s (counted false v ts) bound
+direct_satisfied : (n : ℕ) (v : Assignment) (s : Sense) (bound : ℕ) (ts : List Weighted) → AllByRecursion (OnVariable n) ts → satisfies_all v (direct_clauses s bound ts) ≡ reaches s (counted false v ts) bound
 direct_satisfied n v AtLeast bound ts h = listed_satisfied false ts bound v
 direct_satisfied n v Exactly bound ts h =
     let rest = weight_sum ts - bound in

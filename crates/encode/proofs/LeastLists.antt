@@ -1,7 +1,7 @@
 -- Of a list of the clauses of least sets: what holds of each clause, and that an assignment satisfies the list just where
 -- the bound or more counts.
 use Rattle.std.proofs.Common.{◌≡◌, ℕ, zero, suc, ◌+◌, ◌^◌, ◌<◌, ◌≤◌, Bool, true, false, cond, leb, List, [], ◌∷◌, ◌++◌, length, Decides, refl, inl, inr, arith}
-use Rattle.std.specs.List.{AllByRecursion as All}
+use Rattle.std.specs.List.{AllByRecursion}
 use Rattle.std.proofs.lemmas.Bool.{and_parts, ltb-true, leb-true, le-leb, cases_Bool, cases_eq, cases_lt, both_ways, false≢true}
 use Rattle.std.proofs.lemmas.Bool.Decides.{same_from_decides}
 use Rattle.std.proofs.ByRecursion.{Decides-by_and}
@@ -11,28 +11,28 @@ use Rattle.pb.specs.Meaning.{Assignment}
 use Rattle.encode.specs.Direct.{outside, least, chosen, listed_from, listed}
 use Rattle.encode.proofs.LeastSets.{counted, missed_outside, least_missed}
 
-satisfied_each : (v : Assignment) (cs : List Clause) → Decides (satisfies_all v cs) (All (λ c. satisfies v c ≡ true) cs)
+satisfied_each : (v : Assignment) (cs : List Clause) → Decides (satisfies_all v cs) (AllByRecursion (λ c. satisfies v c ≡ true) cs)
 satisfied_each v cs = Decides-by_and (satisfies v) (λ c. satisfies v c ≡ true) (satisfies_all v) (λ c. (λ e. e, λ e. e)) refl (λ _ _. refl) cs
 
 -- of clauses whose first stands there only under a test
 module _ (P : Clause → Type 0) where
-  each_under : (b : Bool) (c : Clause) (cs : List Clause) → (b ≡ true → P c) → All P cs → All P (cond b (c ∷ []) [] ++ cs)
+  each_under : (b : Bool) (c : Clause) (cs : List Clause) → (b ≡ true → P c) → AllByRecursion P cs → AllByRecursion P (cond b (c ∷ []) [] ++ cs)
   each_under true c cs h hs = (h refl, hs)
   each_under false c cs h hs = hs
 
-  under_each : (b : Bool) (c : Clause) (cs : List Clause) → All P (cond b (c ∷ []) [] ++ cs) → (b ≡ true → P c) × All P cs
+  under_each : (b : Bool) (c : Clause) (cs : List Clause) → AllByRecursion P (cond b (c ∷ []) [] ++ cs) → (b ≡ true → P c) × AllByRecursion P cs
   under_each true c cs h = (λ _. h.0, h.1)
   under_each false c cs h = (λ e. absurd (false≢true e), h)
 
 module _ (flip : Bool) (ts : List Weighted) (bound : ℕ) where
   -- what holds of the clause of each least mask holds of each clause of a list, and what holds of these holds of the
   -- clause of each least mask that the list goes through
-  from_each : (P : Clause → Type 0) → ((mask : ℕ) → least ts bound mask ≡ true → P (of_literals (chosen flip ts mask))) → (n from : ℕ) → All P (listed_from n from flip ts bound)
+  from_each : (P : Clause → Type 0) → ((mask : ℕ) → least ts bound mask ≡ true → P (of_literals (chosen flip ts mask))) → (n from : ℕ) → AllByRecursion P (listed_from n from flip ts bound)
   from_each P h zero from = tt
   from_each P h (suc n) from =
       each_under P (least ts bound from) (of_literals (chosen flip ts from)) (listed_from n (suc from) flip ts bound) (h from) (from_each P h n (suc from))
 
-  each_from : (P : Clause → Type 0) (n from mask : ℕ) → All P (listed_from n from flip ts bound) → from ≤ mask → mask < from + n → least ts bound mask ≡ true → P (of_literals (chosen flip ts mask))
+  each_from : (P : Clause → Type 0) (n from mask : ℕ) → AllByRecursion P (listed_from n from flip ts bound) → from ≤ mask → mask < from + n → least ts bound mask ≡ true → P (of_literals (chosen flip ts mask))
   each_from P zero from mask h low high e = absurd (omega arith)
   each_from P (suc n) from mask h low high e =
       let p = under_each P (least ts bound from) (of_literals (chosen flip ts from)) (listed_from n (suc from) flip ts bound) h in
@@ -41,7 +41,7 @@ module _ (flip : Bool) (ts : List Weighted) (bound : ℕ) where
         | inr k ↦ each_from P n (suc from) mask p.1 (omega arith) (omega arith) e
       ]
 
-  pub listed_each : (P : Clause → Type 0) → ((mask : ℕ) → P (of_literals (chosen flip ts mask))) → All P (listed flip ts bound)
+  pub listed_each : (P : Clause → Type 0) → ((mask : ℕ) → P (of_literals (chosen flip ts mask))) → AllByRecursion P (listed flip ts bound)
   listed_each P h = from_each P (λ mask _. h mask) (2 ^ length ts) 0
 
   module _ (v : Assignment) where

@@ -1,7 +1,7 @@
 -- Where a row of the matrix has its values, the clauses of the rows after it are satisfied just where these have theirs.
 use Rattle.std.proofs.Common.{◌≡◌, ℕ, zero, suc, ◌+◌, ◌-◌, ◌<◌, ◌≤◌, Bool, true, false, cond, not, ◌&&◌, ◌||◌, eqb, leb, List, [], ◌∷◌, ◌++◌, length, take, neg_ℤ, nat_abs, Decides, sym, refl, ap, ◌∙◌, subst, subst₂, inl, inr, arith}
 use mathlib.Core.Bool.{or-false}
-use Rattle.std.specs.List.{AllByRecursion as All}
+use Rattle.std.specs.List.{AllByRecursion}
 use Rattle.std.proofs.lemmas.Bool.{false≢true, leb-true, le-leb, lt-leb, cases_lt}
 use Rattle.std.proofs.lemmas.Bool.Decides.{nat_tests, Decides-at, Decides-like, Decides-and}
 use Rattle.pb.specs.declared.working.Sense.{Sense}
@@ -120,7 +120,7 @@ module _ (v : Assignment) (first c : ℕ) (start : 0 < first) where
   row_decides i total t h row = Decides-like _ (row_from_span v first c i (added v t + total)) (λ q m low high. q m (omega arith)) (cells_decide i 1 c total t h (omega arith) row)
 
   -- the rows from i on, with these terms still to count
-  pub rows_decide : (i total : ℕ) (ts : List Weighted) → All (λ t. 0 < nat_abs t.literal) ts → Row v first c i total → Decides (satisfies_all v (rows_from first c i ts)) (Rows v first c i total ts)
+  pub rows_decide : (i total : ℕ) (ts : List Weighted) → AllByRecursion (λ t. 0 < nat_abs t.literal) ts → Row v first c i total → Decides (satisfies_all v (rows_from first c i ts)) (Rows v first c i total ts)
   rows_decide i total [] h row = (λ _. rows_none v first c i total row, λ _. refl)
   rows_decide i total (t ∷ ts) h row =
       let cs = row_from first c i 1 c t in

@@ -1,6 +1,6 @@
 -- Clauses of few literals whose variables pass a test: how such lists name their variables, and when they are well-formed.
 use Rattle.std.proofs.Common.{◌≡◌, ℕ, ◌+◌, ◌<◌, ◌≤◌, Bool, true, ◌&&◌, ltb, leb, List, [], ◌∷◌, ◌++◌, length, ℤ, nat_abs, refl, inl, inr, arith}
-use Rattle.std.specs.List.{AllByRecursion as All}
+use Rattle.std.specs.List.{AllByRecursion}
 use Rattle.std.proofs.lemmas.Bool.{and_parts, and_from, or_cases, leb-true, le-leb, ltb-true, lt-ltb}
 use Rattle.cnf.specs.Clauses.{Clause, literal_formed, literals_formed, well_formed, all_well_formed, literals_within, names_within}
 use Rattle.encode.specs.Law.{named}
@@ -13,7 +13,7 @@ pub within_push : (p : ℕ → Bool) (ls : List ℤ) (l : ℤ) → literals_with
 within_push p [] l h e = and_from _ _ e refl
 within_push p (x ∷ ls) l h e = let q = and_parts (p (nat_abs x)) _ h in and_from _ _ q.0 (within_push p ls l q.1 e)
 
-pub neat_names : (p : ℕ → Bool) (cs : List Clause) → All (Neat p) cs → names_within p cs ≡ true
+pub neat_names : (p : ℕ → Bool) (cs : List Clause) → AllByRecursion (Neat p) cs → names_within p cs ≡ true
 neat_names p [] h = refl
 neat_names p (c ∷ cs) h = and_from _ _ h.0.named (neat_names p cs h.1)
 
@@ -33,7 +33,7 @@ literals_neat n first k (l ∷ ls) above below h =
     let q = and_parts (named n first k (nat_abs l)) _ h in
     and_from _ _ (literal_neat n first k l above below q.0) (literals_neat n first k ls above below q.1)
 
-pub neat_formed : (n first k : ℕ) (cs : List Clause) → n < first → first + k ≤ 60001 → All (Neat (named n first k)) cs → all_well_formed cs ≡ true
+pub neat_formed : (n first k : ℕ) (cs : List Clause) → n < first → first + k ≤ 60001 → AllByRecursion (Neat (named n first k)) cs → all_well_formed cs ≡ true
 neat_formed n first k [] above below h = refl
 neat_formed n first k (c ∷ cs) above below h =
     and_from (well_formed c) _

@@ -1,6 +1,6 @@
 -- The clauses of the order encoder have few literals, each of a variable or of an auxiliary of the matrix.
 use Rattle.std.proofs.Common.{◌≡◌, ℕ, zero, suc, ◌+◌, ◌-◌, ◌*◌, ◌<◌, ◌≤◌, true, List, [], ◌∷◌, ◌++◌, length, neg_ℤ, arith}
-use Rattle.std.specs.List.{AllByRecursion as All}
+use Rattle.std.specs.List.{AllByRecursion}
 use Rattle.std.proofs.lemmas.Nat.{mul-add-lt}
 use Rattle.std.proofs.ByRecursion.{All-append}
 use Rattle.std.proofs.lemmas.Bool.{and_from, or_right, le-leb, lt-ltb}
@@ -28,13 +28,13 @@ opposite_within n first rows c i j h g = within_opposite (named n first (rows * 
 
 -- clauses on the variables 1 to n and on the auxiliaries of a matrix of so many rows and columns
 abbrev pub Fitting : ℕ → ℕ → ℕ → ℕ → List Clause → Type 0
-Fitting n first rows c cs = All (Neat (named n first (rows * c))) cs
+Fitting n first rows c cs = AllByRecursion (Neat (named n first (rows * c))) cs
 
 module _ (n first rows c : ℕ) where
   both_fitting : (cs ds : List Clause) → Fitting n first rows c cs → Fitting n first rows c ds → Fitting n first rows c (cs ++ ds)
   both_fitting cs ds h g = All-append (Neat (named n first (rows * c))) cs ds h g
 
-  parts_fitting : (ps : List Part) → length ps ≤ 256 → All (Within (named n first (rows * c))) ps → Fitting n first rows c (clause_of ps)
+  parts_fitting : (ps : List Part) → length ps ≤ 256 → AllByRecursion (Within (named n first (rows * c))) ps → Fitting n first rows c (clause_of ps)
   parts_fitting ps few h = neat_of (named n first (rows * c)) ps few h
 
   cell_fitting : (i j : ℕ) (t : Weighted) → i < rows → j ≤ c → OnVariable n t → Fitting n first rows c (cell first c i j t)
@@ -59,7 +59,7 @@ module _ (n first rows c : ℕ) where
   row_fitting i j zero t h g on = tt
   row_fitting i j (suc k) t h g on = both_fitting (cell first c i j t) (row_from first c i (suc j) k t) (cell_fitting i j t h (omega arith) on) (row_fitting i (suc j) k t h (omega arith) on)
 
-  rows_fitting : (i : ℕ) (ts : List Weighted) → i + length ts ≤ rows → All (OnVariable n) ts → Fitting n first rows c (rows_from first c i ts)
+  rows_fitting : (i : ℕ) (ts : List Weighted) → i + length ts ≤ rows → AllByRecursion (OnVariable n) ts → Fitting n first rows c (rows_from first c i ts)
   rows_fitting i [] h on = tt
   rows_fitting i (t ∷ ts) h on = both_fitting (row_from first c i 1 c t) (rows_from first c (suc i) ts) (row_fitting i 1 c t (omega arith) (omega arith) on.0) (rows_fitting (suc i) ts (omega arith) on.1)
 
@@ -70,7 +70,7 @@ last_fitting Exactly n first rows k =
     (parts_fitting n first rows (suc k) (counted first (suc k) rows k ∷ []) (omega arith) (counted_within n first rows (suc k) rows k (omega arith) (omega arith), tt))
     (parts_fitting n first rows (suc k) (opposite (counted first (suc k) rows (suc k)) ∷ []) (omega arith) (opposite_within n first rows (suc k) rows (suc k) (omega arith) (omega arith), tt))
 
-pub order_fitting : (n first : ℕ) (w : Working) → All (OnVariable n) w.terms → All (Neat (named n first (order_takes w))) (order_list w first)
+pub order_fitting : (n first : ℕ) (w : Working) → AllByRecursion (OnVariable n) w.terms → AllByRecursion (Neat (named n first (order_takes w))) (order_list w first)
 order_fitting n first w on =
     let c = columns w.sense w.bound in
     let rows = length w.terms in

@@ -1,7 +1,7 @@
 -- The clause of some parts is satisfied just where one of the parts holds, and names no more than the parts name.
 use Rattle.std.proofs.Common.{◌≡◌, ℕ, zero, suc, ◌+◌, ◌*◌, ◌<◌, ◌≤◌, Bool, true, false, not, ◌&&◌, ◌||◌, List, [], ◌∷◌, ◌++◌, length, ℤ, pos, nat_abs, sym, refl, ap, ◌∙◌, arith, length-append}
 use mathlib.Core.Bool.{and-true, or-true, or-false, or_assoc}
-use Rattle.std.specs.List.{AllByRecursion as All}
+use Rattle.std.specs.List.{AllByRecursion}
 use Rattle.pb.specs.Meaning.{Assignment, holds}
 use Rattle.pb.proofs.Settling.{variable_of_complement, complement_holds}
 use Rattle.cnf.specs.Clauses.{Clause, some_holds, satisfies_all, literals_within}
@@ -55,11 +55,11 @@ within_opposite p (literal l) h = ap p (variable_of_complement l) ∙ h
 within_opposite p always h = tt
 within_opposite p never h = tt
 
-neat_after : (p : ℕ → Bool) (done : List ℤ) (ps : List Part) → literals_within p done ≡ true → length done + length ps ≤ 256 → All (Within p) ps → All (Neat p) (clause_after done ps)
+neat_after : (p : ℕ → Bool) (done : List ℤ) (ps : List Part) → literals_within p done ≡ true → length done + length ps ≤ 256 → AllByRecursion (Within p) ps → AllByRecursion (Neat p) (clause_after done ps)
 neat_after p done [] h few all = (record { named = h; short = omega arith }, tt)
 neat_after p done (literal l ∷ ps) h few all = neat_after p (done ++ l ∷ []) ps (within_push p done l h all.0) (simp length-append (omega arith)) all.1
 neat_after p done (always ∷ ps) h few all = tt
 neat_after p done (never ∷ ps) h few all = neat_after p done ps h (omega arith) all.1
 
-pub neat_of : (p : ℕ → Bool) (ps : List Part) → length ps ≤ 256 → All (Within p) ps → All (Neat p) (clause_of ps)
+pub neat_of : (p : ℕ → Bool) (ps : List Part) → length ps ≤ 256 → AllByRecursion (Within p) ps → AllByRecursion (Neat p) (clause_of ps)
 neat_of p ps few all = neat_after p [] ps refl (omega arith) all

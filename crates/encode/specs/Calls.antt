@@ -4,8 +4,8 @@ use Rattle.fault.specs.declared.sheet.SheetFault.{SheetFault}
 use Rattle.cnf.specs.Calls.{Rule, all_answer, all_held}
 use Rattle.cnf.specs.Clauses.{Clause}
 use Rattle.cnf.specs.declared.sheet.Sheet.{Ghosts}
-use Rattle.encode.specs.declared.fault.EncodeFault.{EncodeFault}
-use Rattle.encode.specs.declared.fault.EncodeFault.TheVariants.{Reach, Sheet}
+use Rattle.encode.specs.declared.encode_fault.EncodeFault.{EncodeFault}
+use Rattle.encode.specs.declared.encode_fault.EncodeFault.TheVariants.{Reach, Sheet}
 use Rattle.encode.specs.Law.{Encoding}
 use Rattle.pb.specs.Lines.{Working}
 

@@ -4,7 +4,7 @@ ghost use Rattle.encode.specs.Calls.{reach_answer, Encoded};
 ghost use Rattle.encode.specs.Law.{Encoding, Lawful};
 ghost use Rattle.pb.specs.Lines.{working_of};
 
-use crate::fault::EncodeFault;
+use crate::encode_fault::EncodeFault;
 use cnf::sheet::Sheet;
 use pb::working::WorkingLine;
 

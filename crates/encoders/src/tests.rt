@@ -1,8 +1,8 @@
 use choose::UpTo;
 use cnf::sheet::Sheet;
 use direct_encoder::encoder::Direct;
+use encode::encode_fault::EncodeFault;
 use encode::encoder::Encoder;
-use encode::fault::EncodeFault;
 use fault::sheet::SheetFault;
 use flat::sheet::FlatSheet;
 use order::encoder::Order;

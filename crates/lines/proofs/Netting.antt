@@ -1,7 +1,7 @@
 -- The table of net weights, one term on, and how large its entries get on the way.
 use Rattle.std.proofs.Common.{◌≡◌, ℕ, ◌<◌, ◌≤◌, Bool, true, false, List, length, drop, set, ℤ, pos, negsuc, ◌+ℤ◌, neg_ℤ, nat_abs, sym, refl, ap, ◌∙◌, inl, inr, arith}
 use lib.Signed.{lt_z}
-use Rattle.std.specs.List.{AllByRecursion as All}
+use Rattle.std.specs.List.{AllByRecursion}
 use Rattle.std.proofs.lemmas.List.{get_or-set_same, get_or-set_other, length-drop}
 use Rattle.std.proofs.ByRecursion.{All-drop}
 use Rattle.std.proofs.lemmas.Int.{ints}
@@ -51,13 +51,13 @@ lowering_above (negsuc l) w h = grind arith
 few_left : (i : ℕ) (ts : List Term) → length ts ≤ 64 → length (drop i ts) ≤ 64
 few_left i ts few = simp length-drop (omega arith)
 
-pub net_so_far : (b : Bool) (ts : List Term) (i v : ℕ) (x : ℤ) → length ts ≤ 64 → All (Fair 256) ts → x +ℤ net b (drop i ts) v ≡ net b ts v → nat_abs x ≤ 1280000
+pub net_so_far : (b : Bool) (ts : List Term) (i v : ℕ) (x : ℤ) → length ts ≤ 64 → AllByRecursion (Fair 256) ts → x +ℤ net b (drop i ts) v ≡ net b ts v → nat_abs x ≤ 1280000
 net_so_far b ts i v x few h e =
     let all = net_within 256 b ts v few h in
     let left = net_within 256 b (drop i ts) v (few_left i ts few) (All-drop (Fair 256) i ts h) in
     omega (arith, ints)
 
-pub lowered_so_far : (b : Bool) (ts : List Term) (i : ℕ) (x : ℤ) → length ts ≤ 64 → All (Fair 256) ts → x +ℤ lowered b (drop i ts) ≡ lowered b ts → nat_abs x ≤ 1280000
+pub lowered_so_far : (b : Bool) (ts : List Term) (i : ℕ) (x : ℤ) → length ts ≤ 64 → AllByRecursion (Fair 256) ts → x +ℤ lowered b (drop i ts) ≡ lowered b ts → nat_abs x ≤ 1280000
 lowered_so_far b ts i x few h e =
     let all = lowered_within 256 b ts few h in
     let left = lowered_within 256 b (drop i ts) (few_left i ts few) (All-drop (Fair 256) i ts h) in

@@ -1,6 +1,6 @@
 // The net weights of a line's variables, and what a normal form takes from them.
 ghost use Rattle.std.specs.Prelude.{◌≡◌, ℕ, ◌≤◌, [], ◌∷◌, length, take, drop, replicate, pos, ◌+ℤ◌, ◌≢◌, unsigned_abs};
-ghost use Rattle.std.specs.List.{AllByRecursion as All};
+ghost use Rattle.std.specs.List.{AllByRecursion};
 ghost use Rattle.pb.specs.Checks.{Fair};
 ghost use Rattle.pb.specs.Normal.{weight_under, share, lowering, lowered, raise_of, raised, term_of, gathered};
 ghost use Rattle.lines.specs.Nets.{at, NetsOf, Within};
@@ -13,7 +13,7 @@ use pb::working::Weighted;
 // complements lower the bound.
 pub(crate) fn fill(negate: bool, terms: &[Term], nets: &mut [i32; 257]) -> i32
     requires few { length terms.now ≤ 64 }
-    requires fair { All (Fair 256) terms.now }
+    requires fair { AllByRecursion (Fair 256) terms.now }
     requires blank { nets.old ≡ replicate 257 (pos 0) }
     ensures sum { result ≡ lowered negate terms.now }
     ensures table { NetsOf negate terms.now nets.new }

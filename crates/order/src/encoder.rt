@@ -7,8 +7,8 @@ ghost use Rattle.encode.specs.OrderWorked.{OrderWorkedCases};
 use crate::matrix::{Matrix, columns};
 use cnf::listing::give_all;
 use cnf::sheet::Sheet;
+use encode::encode_fault::EncodeFault;
 use encode::encoder::Encoder;
-use encode::fault::EncodeFault;
 use pb::working::WorkingLine;
 
 // A line may take so many auxiliaries.

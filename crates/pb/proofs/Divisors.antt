@@ -3,7 +3,7 @@
 use Rattle.std.proofs.Common.{◌≡◌, ℕ, zero, suc, ◌+◌, ◌-◌, ◌*◌, ◌%◌, ◌<◌, ◌≤◌, List, [], ◌∷◌, length, subst, mod-lt, div-lt_iff_lt-mul, mul-le-mul_left, le-div_iff_mul-le, arith}
 use Prim.Native.Nat.{◌∣◌}
 use native.Mathlib.Nat.{dvd-mod_iff, dvd_refl, dvd-zero, dvd_trans, pos_of_dvd_of_pos, div-mul_cancel, mul-dvd-mul_right, dvd_of_mul-dvd-mul_right, eq-one_of_dvd-one}
-use Rattle.std.specs.List.{AllByRecursion as All}
+use Rattle.std.specs.List.{AllByRecursion}
 use Rattle.std.proofs.ByRecursion.{All-weaker}
 use Rattle.pb.specs.declared.working.Weighted.{Weighted}
 use Rattle.pb.specs.Tightened.{gcd_steps, gcd, divisor_of, divided, over}
@@ -53,10 +53,10 @@ gcd_greatest a b e p q = steps_greatest (suc b) a b e p q
 
 -- a divisor of each weight
 abbrev pub Common : ℕ → List Weighted → Type 0
-Common d ts = All (λ t. d ∣ t.weight) ts
+Common d ts = AllByRecursion (λ t. d ∣ t.weight) ts
 
 abbrev pub Positive : List Weighted → Type 0
-Positive ts = All (λ t. 0 < t.weight) ts
+Positive ts = AllByRecursion (λ t. 0 < t.weight) ts
 
 pub divisor_common : (ts : List Weighted) → Common (divisor_of ts) ts
 divisor_common [] = tt

@@ -1,6 +1,6 @@
 -- Terms without fault are fair, and how large the net weights of fair terms get, and what these lower the bound by.
 use Rattle.std.proofs.Common.{◌≡◌, ℕ, suc, ◌*◌, ◌≤◌, Bool, true, false, cond, eqb, ltb, leb, ◌≢◌, List, [], ◌∷◌, length, ℤ, pos, negsuc, neg_ℤ, nat_abs, Some, None, Option, refl, arith}
-use Rattle.std.specs.List.{AllByRecursion as All}
+use Rattle.std.specs.List.{AllByRecursion}
 use Rattle.std.proofs.lemmas.Int.{ints}
 use Rattle.std.proofs.lemmas.Bool.{and_parts, leb-true, ltb-true}
 use Rattle.std.proofs.lemmas.Bool.Decides.{nat_tests}
@@ -14,7 +14,7 @@ unrefused true true o x y h = (refl, refl, h)
 unrefused true false o x y h = absurd (let e : ◌≡◌ {A = ℕ} 0 1 = cc in omega arith)
 unrefused false b o x y h = absurd (let e : ◌≡◌ {A = ℕ} 0 1 = cc in omega arith)
 
-pub fair_terms : (n m i : ℕ) (ts : List Term) → n ≤ m → terms_fault n i ts ≡ None → All (Fair m) ts
+pub fair_terms : (n m i : ℕ) (ts : List Term) → n ≤ m → terms_fault n i ts ≡ None → AllByRecursion (Fair m) ts
 fair_terms n m i [] most h = tt
 fair_terms n m i (t ∷ ts) most h =
     let p = unrefused (literal_named n t.literal) (weight_small t.weight) _ _ _ h in
@@ -35,7 +35,7 @@ pub under_small : (n : ℕ) (b : Bool) (t : Term) → Fair n t → nat_abs (weig
 under_small n true t h = omega (arith, ints, h.2)
 under_small n false t h = h.2
 
-net_small : (n : ℕ) (b : Bool) (ts : List Term) (v : ℕ) → All (Fair n) ts → nat_abs (net b ts v) ≤ 10000 * length ts
+net_small : (n : ℕ) (b : Bool) (ts : List Term) (v : ℕ) → AllByRecursion (Fair n) ts → nat_abs (net b ts v) ≤ 10000 * length ts
 net_small n b [] v h = omega arith
 net_small n b (t ∷ ts) v h =
     let one = share_small v t.literal (weight_under b t) (under_small n b t h.0) in
@@ -46,7 +46,7 @@ pub lowering_small : (l w : ℤ) → nat_abs w ≤ 10000 → nat_abs (lowering l
 lowering_small (pos l) w h = omega arith
 lowering_small (negsuc l) w h = h
 
-lowered_small : (n : ℕ) (b : Bool) (ts : List Term) → All (Fair n) ts → nat_abs (lowered b ts) ≤ 10000 * length ts
+lowered_small : (n : ℕ) (b : Bool) (ts : List Term) → AllByRecursion (Fair n) ts → nat_abs (lowered b ts) ≤ 10000 * length ts
 lowered_small n b [] h = omega arith
 lowered_small n b (t ∷ ts) h =
     let one = lowering_small t.literal (weight_under b t) (under_small n b t h.0) in
@@ -54,8 +54,8 @@ lowered_small n b (t ∷ ts) h =
     omega (arith, ints)
 
 -- what at most 64 fair terms come to
-pub net_within : (n : ℕ) (b : Bool) (ts : List Term) (v : ℕ) → length ts ≤ 64 → All (Fair n) ts → nat_abs (net b ts v) ≤ 640000
+pub net_within : (n : ℕ) (b : Bool) (ts : List Term) (v : ℕ) → length ts ≤ 64 → AllByRecursion (Fair n) ts → nat_abs (net b ts v) ≤ 640000
 net_within n b ts v few h = let m = net_small n b ts v h in omega arith
 
-pub lowered_within : (n : ℕ) (b : Bool) (ts : List Term) → length ts ≤ 64 → All (Fair n) ts → nat_abs (lowered b ts) ≤ 640000
+pub lowered_within : (n : ℕ) (b : Bool) (ts : List Term) → length ts ≤ 64 → AllByRecursion (Fair n) ts → nat_abs (lowered b ts) ≤ 640000
 lowered_within n b ts few h = let m = lowered_small n b ts h in omega arith

@@ -1,7 +1,7 @@
 -- What is gathered and raised from net weights depends only on those of the variables at hand; the terms gathered from a
 -- line's net weights are proper, no more than the line has, and weigh no more than these.
 use Rattle.std.proofs.Common.{◌≡◌, ℕ, zero, suc, ◌+◌, ◌*◌, ◌<◌, ◌≤◌, Bool, true, ◌≢◌, List, [], ◌∷◌, ◌++◌, length, ℤ, pos, negsuc, nat_abs, refl, ap, inl, inr, arith}
-use Rattle.std.specs.List.{AllByRecursion as All}
+use Rattle.std.specs.List.{AllByRecursion}
 use Rattle.std.proofs.lemmas.List.{length-append}
 use Rattle.std.proofs.lemmas.Int.{ints}
 use Rattle.std.proofs.lemmas.Bool.{cases_eq, le-leb, lt-ltb}
@@ -103,7 +103,7 @@ weight_near (suc k) v u d f g h m =
           omega arith
     ]
 
-pub gathered_light : (n v m : ℕ) (b : Bool) (ts : List Term) → All (Fair m) ts → weight_sum (gathered n v (net b ts)) ≤ 10000 * length ts
+pub gathered_light : (n v m : ℕ) (b : Bool) (ts : List Term) → AllByRecursion (Fair m) ts → weight_sum (gathered n v (net b ts)) ≤ 10000 * length ts
 gathered_light n v m b [] h = let e = ap weight_sum (gathered_none n v) in omega arith
 gathered_light n v m b (t ∷ ts) h =
     let u = nat_abs t.literal in

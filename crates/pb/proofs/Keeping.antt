@@ -2,7 +2,7 @@
 -- above its bound as the line's total, negated or not, is above the threshold.
 use Rattle.std.proofs.Common.{◌≡◌, ℕ, Bool, true, false, cond, ◌&&◌, List, [], ◌∷◌, ℤ, pos, negsuc, ◌+ℤ◌, ◌-ℤ◌, neg_ℤ, refl, ap, ◌∙◌, arith}
 use lib.Signed.{le_z}
-use Rattle.std.specs.List.{AllByRecursion as All}
+use Rattle.std.specs.List.{AllByRecursion}
 use Rattle.std.proofs.lemmas.Int.{ints}
 use Rattle.std.proofs.lemmas.Bool.Decides.{nat_tests}
 use Rattle.pb.specs.declared.relation.Relation.{Relation}
@@ -44,7 +44,7 @@ counted_total b a (t ∷ ts) =
     let both = signed_plus b (cond (holds a t.literal) t.weight (pos 0)) (total a ts) in
     omega (arith, ints)
 
-counted_net : (n : ℕ) (b : Bool) (a : Assignment) (ts : List Term) → All (Fair n) ts → counted b a ts ≡ spread n 1 (net b ts) a +ℤ lowered b ts
+counted_net : (n : ℕ) (b : Bool) (a : Assignment) (ts : List Term) → AllByRecursion (Fair n) ts → counted b a ts ≡ spread n 1 (net b ts) a +ℤ lowered b ts
 counted_net n b a [] h = let e = spread_none n 1 a in omega (arith, ints)
 counted_net n b a (t ∷ ts) h =
     let shares : ℕ → ℤ = λ u. share u t.literal (weight_under b t) in
@@ -72,7 +72,7 @@ met_floored a LeastOf ts (negsuc m) t c h = grind (arith, ints, nat_tests)
 met_floored a Just ts (pos m) t c h = grind (arith, ints, nat_tests)
 met_floored a Just ts (negsuc m) t c h = grind (arith, ints, nat_tests)
 
-met_counted : (n : ℕ) (a : Assignment) (s : Sense) (b : Bool) (ts : List Term) (c : ℤ) → All (Fair n) ts → met a (floored s ((c -ℤ lowered b ts) +ℤ pos (raised n 1 (net b ts))) (gathered n 1 (net b ts))) ≡ compared s (counted b a ts) c
+met_counted : (n : ℕ) (a : Assignment) (s : Sense) (b : Bool) (ts : List Term) (c : ℤ) → AllByRecursion (Fair n) ts → met a (floored s ((c -ℤ lowered b ts) +ℤ pos (raised n 1 (net b ts))) (gathered n 1 (net b ts))) ≡ compared s (counted b a ts) c
 met_counted n a s b ts c h =
     let e = counted_net n b a ts h in
     let d = weighed_gathered n 1 (net b ts) a (omega arith) in

@@ -3,7 +3,7 @@
 use Rattle.std.proofs.Common.{◌≡◌, ℕ, zero, suc, ◌+◌, ◌*◌, ◌/◌, ◌<◌, ◌≤◌, min, Bool, true, false, cond, ltb, leb, List, [], ◌∷◌, length, nat_abs, sym, refl, ap, add-mul, div-le_self, div-one, arith}
 use Prim.Native.Nat.{◌∣◌}
 use native.Mathlib.Nat.{div-mul_cancel}
-use Rattle.std.specs.List.{AllByRecursion as All}
+use Rattle.std.specs.List.{AllByRecursion}
 use Rattle.std.proofs.lemmas.Bool.{and_parts, and_from, ltb-true, lt-ltb}
 use Rattle.pb.specs.declared.working.Weighted.{Weighted}
 use Rattle.pb.specs.Meaning.{Assignment, holds, weighed}
@@ -52,11 +52,11 @@ pub saturated_positive : (k : ℕ) (ts : List Weighted) → 0 < k → Positive t
 saturated_positive k [] h g = tt
 saturated_positive k (t ∷ ts) h g = let p = g.0 in (omega arith, saturated_positive k ts h g.1)
 
-pub saturated_within : (k : ℕ) (ts : List Weighted) → All (λ t. t.weight ≤ k) (saturated k ts)
+pub saturated_within : (k : ℕ) (ts : List Weighted) → AllByRecursion (λ t. t.weight ≤ k) (saturated k ts)
 saturated_within k [] = tt
 saturated_within k (t ∷ ts) = (omega arith, saturated_within k ts)
 
-pub saturated_same : (k : ℕ) (ts : List Weighted) → All (λ t. t.weight ≤ k) ts → saturated k ts ≡ ts
+pub saturated_same : (k : ℕ) (ts : List Weighted) → AllByRecursion (λ t. t.weight ≤ k) ts → saturated k ts ≡ ts
 saturated_same k [] h = refl
 saturated_same k (t ∷ ts) h =
     let p = h.0 in
@@ -104,7 +104,7 @@ divided_positive d (t ∷ ts) h g =
     let p = g.0 in
     (factor_positive (t.weight / d) d (omega arith), divided_positive d ts h.1 g.1)
 
-pub divided_within : (k d : ℕ) (ts : List Weighted) → 0 < d → Common d ts → All (λ t. t.weight ≤ k) ts → All (λ t. t.weight ≤ over k d) (divided d ts)
+pub divided_within : (k d : ℕ) (ts : List Weighted) → 0 < d → Common d ts → AllByRecursion (λ t. t.weight ≤ k) ts → AllByRecursion (λ t. t.weight ≤ over k d) (divided d ts)
 divided_within k d [] l h g = tt
 divided_within k d (t ∷ ts) l h g =
     let first = counts_divided true t.weight d h.0 in

@@ -2,7 +2,7 @@
 -- forced, no term alone forces anything. The laws of the reduced line stand beside these.
 use Rattle.std.proofs.Common.{◌≡◌, ℕ, zero, suc, ◌+◌, ◌-◌, ◌<◌, ◌≤◌, Bool, true, false, cond, not, ltb, ◌⊎◌, List, [], ◌∷◌, ℤ, pos, negsuc, neg_ℤ, nat_abs, Some, None, Option, sym, refl, ap, ◌∙◌, inl, inr, arith}
 use mathlib.Core.Bool.{not-not}
-use Rattle.std.specs.List.{AllByRecursion as All}
+use Rattle.std.specs.List.{AllByRecursion}
 use Rattle.std.proofs.lemmas.Bool.{leb-true, ltb-true, ltb-false, le-ltb, eqb-true}
 use Rattle.pb.specs.declared.working.Sense.{Sense}
 use Rattle.pb.specs.declared.working.Sense.TheVariants.{AtLeast, Exactly}
@@ -132,13 +132,13 @@ by_named Exactly n sum k ts l g h = exactly_named n 0 sum k ts l g h
 pub forced_named : ForcedNamed
 forced_named n w l g h = by_named w.sense n (weight_sum w.terms) w.bound w.terms l g.terms_are (reached_found (ltb (weight_sum w.terms) w.bound) l _ h)
 
-least_none : (sum k : ℕ) (ts : List Weighted) → forced_least sum k ts ≡ None → All (Unforced AtLeast sum k) ts
+least_none : (sum k : ℕ) (ts : List Weighted) → forced_least sum k ts ≡ None → AllByRecursion (Unforced AtLeast sum k) ts
 least_none sum k [] h = tt
 least_none sum k (t ∷ ts) h =
     let p = neither_found (ltb (sum - t.weight) k) t.literal (forced_least sum k ts) h in
     (ltb-false _ _ p.0, least_none sum k ts p.1)
 
-exactly_none : (sum k : ℕ) (ts : List Weighted) → forced_exactly sum k ts ≡ None → All (Unforced Exactly sum k) ts
+exactly_none : (sum k : ℕ) (ts : List Weighted) → forced_exactly sum k ts ≡ None → AllByRecursion (Unforced Exactly sum k) ts
 exactly_none sum k [] h = tt
 exactly_none sum k (t ∷ ts) h =
     let o = forced_exactly sum k ts in
@@ -149,7 +149,7 @@ exactly_none sum k (t ∷ ts) h =
 none_reached : (sum k : ℕ) (o : Option ℤ) → k ≤ sum → cond (ltb sum k) None o ≡ None → o ≡ None
 none_reached sum k o g h = rw (le-ltb sum k g) at h
 
-by_none : (s : Sense) (sum k : ℕ) (ts : List Weighted) → forced_by s sum k ts ≡ None → All (Unforced s sum k) ts
+by_none : (s : Sense) (sum k : ℕ) (ts : List Weighted) → forced_by s sum k ts ≡ None → AllByRecursion (Unforced s sum k) ts
 by_none AtLeast sum k ts h = least_none sum k ts h
 by_none Exactly sum k ts h = exactly_none sum k ts h
 

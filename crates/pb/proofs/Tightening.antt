@@ -3,7 +3,7 @@
 use Rattle.std.proofs.Common.{◌≡◌, ℕ, ◌+◌, ◌*◌, ◌/◌, ◌%◌, ◌<◌, ◌≤◌, true, false, ◌&&◌, eqb, ltb, leb, ◌⊎◌, List, [], length, sym, refl, ap, ◌∙◌, subst, inl, inr, div-le_self, le_of_mul-le-mul_right, arith}
 use Prim.Native.Nat.{◌∣◌}
 use native.Mathlib.Nat.{div-mul_cancel, eq_of_mul-eq-mul_right, dvd-mul_left}
-use Rattle.std.specs.List.{AllByRecursion as All}
+use Rattle.std.specs.List.{AllByRecursion}
 use Rattle.std.proofs.lemmas.Bool.{ne_eqb, le-ltb, eq-eqb, and_right}
 use Rattle.std.proofs.lemmas.Bool.Decides.{nat_tests}
 use Rattle.pb.specs.declared.working.Sense.{Sense}
@@ -63,7 +63,7 @@ divided_proper n k j s ts l p =
     record { terms_are = proper_divided n 0 d ts positive p.terms_are; few = omega arith; light = omega arith; near = omega arith }
 
 -- a line that has nothing left to saturate or to divide stays as it is
-least_again : (k : ℕ) (ts : List Weighted) → 0 < k → k ≤ weight_sum ts → All (λ t. t.weight ≤ k) ts → divisor_of ts ≡ 1 → tightened_least k ts ≡ line AtLeast k ts
+least_again : (k : ℕ) (ts : List Weighted) → 0 < k → k ≤ weight_sum ts → AllByRecursion (λ t. t.weight ≤ k) ts → divisor_of ts ≡ 1 → tightened_least k ts ≡ line AtLeast k ts
 least_again k ts l h w d =
     let z : eqb k 0 ≡ false = ne_eqb k 0 (λ e. omega arith) in
     let c : ltb (weight_sum ts) k ≡ false = le-ltb _ _ h in
@@ -82,7 +82,7 @@ exactly_again k ts l h d =
     rw (z, c, d, m, f, g)
 
 abbrev Left : Working → Type 0
-Left v = (v.sense ≡ Exactly → (divisor_of v.terms ≡ 1) ⊎ (v.terms ≡ [])) × (v.sense ≡ AtLeast → All (λ t. t.weight ≤ v.bound) v.terms)
+Left v = (v.sense ≡ Exactly → (divisor_of v.terms ≡ 1) ⊎ (v.terms ≡ [])) × (v.sense ≡ AtLeast → AllByRecursion (λ t. t.weight ≤ v.bound) v.terms)
 
 never_least : Exactly ≡ AtLeast → ⊥
 never_least h = let z : ◌≡◌ {A = ℕ} 0 1 = cc in omega arith

@@ -1,7 +1,7 @@
 -- What every layer above may use of the transformations of lines, and all that it needs: who meets a line, and that a
 -- line stays proper. Nothing above has to open a definition.
 use Rattle.std.specs.Prelude.{◌≡◌, ℕ, ◌<◌, ◌≤◌, true, ◌⊎◌, [], length, ℤ, Some, None, unsigned_abs}
-use Rattle.std.specs.List.{AllByRecursion as All}
+use Rattle.std.specs.List.{AllByRecursion}
 use Rattle.pb.specs.declared.working.Sense.TheVariants.{AtLeast, Exactly}
 use Rattle.pb.specs.Lines.{Line, Working}
 use Rattle.pb.specs.Checks.{Sound}
@@ -25,7 +25,7 @@ TightenProper = (n : ℕ) (w : Working) → Proper n w → Proper n (tightened w
 
 -- what it leaves: an "exactly" line without a common divisor, an "at least" line whose weights do not exceed its bound
 abbrev pub TightenLeaves : Type 0
-TightenLeaves = (n : ℕ) (w : Working) → Proper n w → ((tightened w).sense ≡ Exactly → (divisor_of (tightened w).terms ≡ 1) ⊎ ((tightened w).terms ≡ [])) × ((tightened w).sense ≡ AtLeast → All (λ t. t.weight ≤ (tightened w).bound) (tightened w).terms)
+TightenLeaves = (n : ℕ) (w : Working) → Proper n w → ((tightened w).sense ≡ Exactly → (divisor_of (tightened w).terms ≡ 1) ⊎ ((tightened w).terms ≡ [])) × ((tightened w).sense ≡ AtLeast → AllByRecursion (λ t. t.weight ≤ (tightened w).bound) (tightened w).terms)
 
 -- so to tighten twice is to tighten once
 abbrev pub TightenOnce : Type 0
@@ -40,7 +40,7 @@ ForcedNamed = (n : ℕ) (w : Working) (l : ℤ) → Proper n w → forced w ≡ 
 
 -- where nothing is forced and the weights reach the bound, no term alone forces anything
 abbrev pub ForcedNone : Type 0
-ForcedNone = (w : Working) → forced w ≡ None → w.bound ≤ weight_sum w.terms → All (Unforced w.sense (weight_sum w.terms) w.bound) w.terms
+ForcedNone = (w : Working) → forced w ≡ None → w.bound ≤ weight_sum w.terms → AllByRecursion (Unforced w.sense (weight_sum w.terms) w.bound) w.terms
 
 -- where a literal holds, the reduced line is met just where the line was; it stays proper and gains no term
 abbrev pub ReducedKeeps : Type 0

@@ -1,6 +1,6 @@
 -- The file of a schedule reads back as that schedule: record by record, line by line, and then the whole.
 use Rattle.std.proofs.Common.{◌≡◌, ℕ, zero, suc, ◌+◌, ◌-◌, ◌*◌, ◌≤◌, true, cond, leb, List, [], ◌∷◌, ◌++◌, length, take, drop, nat_abs, Some, None, Ok, Option, refl, ap, ◌∙◌, append_assoc, arith, length-append, w16, w32, of_z}
-use Rattle.std.specs.List.{AllByRecursion as All}
+use Rattle.std.specs.List.{AllByRecursion}
 use Rattle.std.proofs.lemmas.List.{take_at, drop_at}
 use Rattle.std.proofs.lemmas.Bool.{le-leb, lt-ltb}
 use Rattle.std.proofs.lemmas.Bool.Decides.{nat_tests}
@@ -33,7 +33,7 @@ record Small (t : Term) : Type 0 where
 first_small : (n i : ℕ) (t : Term) (r : Option LineFault) → n ≤ 256 → cond (literal_named n t.literal) (cond (weight_small t.weight) r (Some (BadWeight i))) (Some (BadLiteral i)) ≡ None → Small t × (r ≡ None)
 first_small n i t r few h = (record { weight_fits = grind (arith, nat_tests); literal_fits = grind (arith, nat_tests) }, grind (arith, nat_tests))
 
-terms_small : (n i : ℕ) (ts : List Term) → n ≤ 256 → terms_fault n i ts ≡ None → All Small ts
+terms_small : (n i : ℕ) (ts : List Term) → n ≤ 256 → terms_fault n i ts ≡ None → AllByRecursion Small ts
 terms_small n i [] few h = tt
 terms_small n i (t ∷ ts) few h =
     let p = first_small n i t (terms_fault n (suc i) ts) few h in
@@ -47,7 +47,7 @@ term_body t = long_bytes (of_z w32 t.weight) ++ word_bytes (of_z w16 t.literal)
 term_back : (t : Term) → Small t → term_in (term_body t) ≡ t
 term_back t h = rw (signed_long_back t.weight h.weight_fits, signed_word_back t.literal h.literal_fits)
 
-terms_back : (ts : List Term) (at : ℕ) (rest : List ℕ) → All Small ts → read_terms (length ts) at (term_records ts ++ rest) ≡ Ok ts
+terms_back : (ts : List Term) (at : ℕ) (rest : List ℕ) → AllByRecursion Small ts → read_terms (length ts) at (term_records ts ++ rest) ≡ Ok ts
 terms_back [] at rest h = refl
 terms_back (t ∷ ts) at rest h =
     rw (record_back TermMark at (term_body t) (term_records ts ++ rest) refl, terms_back ts (at + 8) rest h.1, term_back t h.0)
@@ -87,7 +87,7 @@ past_line l rest = drop_at (line_records l) rest (line_size l) (omega (arith, le
 abbrev end_record : List ℕ
 end_record = 69 ∷ 78 ∷ []
 
-lines_back : (ls : List Line) (lines terms n held at : ℕ) → n ≤ 256 → All (Sound n) ls → length ls ≤ lines → terms_of ls ≤ terms → read_lines lines terms n held at (lines_records ls ++ end_record) ≡ Ok ls
+lines_back : (ls : List Line) (lines terms n held at : ℕ) → n ≤ 256 → AllByRecursion (Sound n) ls → length ls ≤ lines → terms_of ls ≤ terms → read_lines lines terms n held at (lines_records ls ++ end_record) ≡ Ok ls
 lines_back [] zero terms n held at few h fit room = refl
 lines_back [] (suc lines) terms n held at few h fit room = refl
 lines_back (l ∷ ls) zero terms n held at few h fit room = absurd (omega arith)

@@ -2,7 +2,7 @@
 use Rattle.std.specs.Prelude.{◌≡◌, ℕ, ◌+◌, ◌/◌, ◌%◌, ◌<◌, ◌≤◌, List, [], ◌∷◌, ◌++◌, length, Ok}
 use Rattle.std.specs.Int.{w16, w32}
 use Rattle.std.proofs.Common.{of_z}
-use Rattle.std.specs.List.{AllByRecursion as All}
+use Rattle.std.specs.List.{AllByRecursion}
 use Rattle.pb.specs.declared.term.Term.{Term}
 use Rattle.pb.specs.Lines.{Line}
 use Rattle.pb.specs.Checks.{relation_number, Sound}
@@ -47,7 +47,7 @@ terms_of (l ∷ ls) = length l.terms + terms_of ls
 pub record Takes (lines terms : ℕ) (s : Schedule) : Type 0 where
   pub some : 0 < s.variables
   pub few : s.variables ≤ 256
-  pub sound : All (Sound s.variables) s.lines
+  pub sound : AllByRecursion (Sound s.variables) s.lines
   pub lines_fit : length s.lines ≤ lines
   pub terms_fit : terms_of s.lines ≤ terms
 

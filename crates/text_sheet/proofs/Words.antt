@@ -1,6 +1,6 @@
 -- A row in words: each literal with the space behind it, and then 0 and a line feed, where no space stands.
 use Rattle.std.proofs.Common.{◌≡◌, ℕ, zero, suc, ◌+◌, ◌-◌, ◌<◌, ◌≤◌, true, ltb, List, [], ◌∷◌, ◌++◌, length, get_or, take, drop, ℤ, pos, nat_abs, sym, refl, ap, ◌∙◌, append_assoc, arith, length-append}
-use Rattle.std.specs.List.{between, flat_map, AllByRecursion as All}
+use Rattle.std.specs.List.{between, flat_map, AllByRecursion}
 use Rattle.std.specs.Fmt.{signed_decimal}
 use Rattle.std.proofs.lemmas.List.{take_all, take_at, take-take, take-append-le, take_more}
 use Rattle.std.proofs.lemmas.Slice.{between_is}
@@ -22,7 +22,7 @@ row_words [] = refl
 row_words (l ∷ ls) =
     ap (λ xs. signed_decimal l ++ (32 ∷ xs)) (row_words ls) ∙ sym (append_assoc (signed_decimal l) (32 ∷ []) (flat_map word ls ++ row_end)) ∙ sym (append_assoc (word l) (flat_map word ls) row_end)
 
-words_parts : (ls : List ℤ) → literals_formed ls ≡ true → All (λ l. IsPart is_space (word l)) ls
+words_parts : (ls : List ℤ) → literals_formed ls ≡ true → AllByRecursion (λ l. IsPart is_space (word l)) ls
 words_parts [] h = tt
 words_parts (l ∷ ls) h =
     let p = and_parts (literal_formed l) (literals_formed ls) h in

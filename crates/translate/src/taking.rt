@@ -11,8 +11,8 @@ ghost use Rattle.translate.specs.Streaming.{Grew, GoesOn, EndsWith};
 ghost use Rattle.translate.specs.Entering.{Entered, NotEntered};
 
 use crate::run::Run;
+use direct::encode_fault::EncodeFault;
 use direct::encoder::encode;
-use direct::fault::EncodeFault;
 use fault::book::BookFault;
 use fault::file::{At, FileFault};
 use fault::line::LineFault;

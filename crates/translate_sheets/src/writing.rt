@@ -6,8 +6,8 @@ ghost use Rattle.translate_sheets.specs.Translation.{write_by};
 ghost use Rattle.translate_sheets.specs.Streaming.{Grew};
 
 use cnf::sheet::Sheet;
+use encode::encode_fault::EncodeFault;
 use encode::encoder::Encoder;
-use encode::fault::EncodeFault;
 use fault::book::BookFault;
 use fault::refusal::Refusal;
 use pb::working::WorkingLine;

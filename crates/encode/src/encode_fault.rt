@@ -1,6 +1,6 @@
 // What an encoder can refuse.
 ghost use Rattle.std.specs.Prelude.{◌≡◌};
-ghost use Rattle.encode.specs.declared.fault.EncodeFault.TheVariants.{Sheet};
+ghost use Rattle.encode.specs.declared.encode_fault.EncodeFault.TheVariants.{Sheet};
 
 use fault::sheet::SheetFault;
 
