@@ -91,7 +91,7 @@ pub(crate) fn gather(variables: Variables, nets: &[i32; 257], form: &mut [Weight
 
 // The term of a variable with this net weight: one on its complement where that is negative.
 fn term_from(variable: u16, net: i32) -> Weighted
-    requires { (variable ≤ 256) × ((net ≢ pos 0)) }
+    requires { (variable ≤ 256) × (net ≢ pos 0) }
     ensures { term_of variable net ≡ result ∷ [] }
 {
     let literal = variable as i16;

@@ -74,7 +74,7 @@ read_check n at rest l h =
     let q = of_passed at rest p.0 l p.2 in
     rw (q.0, q.1)
 
--- what next-line makes of what was read
+-- what next_line makes of what was read
 next_none : (n at : ℕ) (rest : List ℕ) → read_line at rest ≡ Ok None → next_line n at rest ≡ Ok None
 next_none n at rest h = ap (λ r. then r (judged n at)) h
 
