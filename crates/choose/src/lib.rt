@@ -1,7 +1,6 @@
 // An encoder made of two: one for the lines of few terms, the other for the rest.
 #![tactic(auto)]
 
-ghost use Rattle.std.specs.Prelude.{◌≡◌};
 ghost use Rattle.encode.proofs.Choosing.{up_to_lawful};
 ghost use Rattle.encode.specs.Choice.{up_to};
 
@@ -23,6 +22,7 @@ impl<E: Encoder, F: Encoder> Encoder for UpTo<E, F> {
 
     ghost lawful = { λ u. up_to_lawful u.most (E.Encoder.meaning u.few) (F.Encoder.meaning u.many) (E.Encoder.lawful u.few) (F.Encoder.lawful u.many) };
 
+    // Kept: both calls ask which encoder, as one value for either would be an enum of the two with a match in both
     fn reach(&self, line: WorkingLine<'_>) -> Option<usize> {
         if line.terms.len() <= self.most {
             self.few.reach(line)

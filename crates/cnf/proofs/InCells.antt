@@ -1,12 +1,19 @@
 -- Well-formed clauses have no literal 0, so that each 0 in the cells ends a clause, and the cells read back as the
 -- clauses.
-use Rattle.std.proofs.Common.{◌≡◌, ℕ, ◌<◌, true, false, cond, List, [], ◌∷◌, ◌++◌, ℤ, pos, negsuc, nat_abs, refl, ap, ◌∙◌, append_assoc, arith}
+use Rattle.std.proofs.Common.{◌≡◌, ℕ, ◌<◌, true, false, cond, eqb, List, [], ◌∷◌, ◌++◌, ℤ, pos, negsuc, nat_abs, refl, ap, ◌∙◌, append_assoc, arith}
+use Rattle.std.specs.Ordering.{int_eq}
+use Rattle.std.proofs.lemmas.Bool.Decides.{same_from_decides, Decides-eqb, Decides-int_eq, Decides-like}
 use Rattle.std.proofs.lemmas.Bool.{and_parts, ne_eqb, ltb-true}
 use Rattle.cnf.specs.Cells.{is_zero, onto_first, clauses_in, cell_layout}
 use Rattle.cnf.specs.Clauses.{Clause, of_literals, literal_formed, literals_formed, all_well_formed}
 use Rattle.cnf.specs.Layouts.{Faithful, written}
 use Rattle.cnf.specs.Marks.{marks}
 use Rattle.cnf.proofs.Marking.{part_from}
+
+-- a cell ends a clause exactly where it equals 0
+pub equals_zero : (l : ℤ) → int_eq l (pos 0) ≡ is_zero l
+equals_zero (pos n) = same_from_decides _ _ (Decides-int_eq (pos n) (pos 0)) (Decides-like (eqb n 0) (ap pos) (λ e. cc) (Decides-eqb n 0))
+equals_zero (negsuc n) = refl
 
 some_not_zero : (l : ℤ) → 0 < nat_abs l → is_zero l ≡ false
 some_not_zero (pos n) h = ne_eqb n 0 (λ e. omega arith)

@@ -1,7 +1,7 @@
 -- A memory that shows clauses, of any layout to rely on: one clause more, the first clauses alone, and one clause's part.
-use Rattle.std.proofs.Common.{◌≡◌, ℕ, zero, suc, ◌+◌, ◌<◌, ◌≤◌, true, false, List, [], ◌∷◌, ◌++◌, length, get_or, take, sym, refl, ap, ◌∙◌, arith, length-append, length-take}
+use Rattle.std.proofs.Common.{◌≡◌, ℕ, zero, suc, ◌+◌, ◌<◌, ◌≤◌, true, List, [], ◌∷◌, ◌++◌, length, get_or, take, sym, refl, ap, ◌∙◌, arith, length-append, length-take}
 use Rattle.std.proofs.lemmas.List.{length_push, length-take-le}
-use Rattle.std.proofs.lemmas.Bool.{and_parts, and_from, le-leb, lt-leb, leb-true}
+use Rattle.std.proofs.lemmas.Bool.{and_parts, and_from, le-leb, leb-true}
 use Rattle.std.specs.List.{between, AllByRecursion}
 use Rattle.cnf.specs.Calls.{Begins}
 use Rattle.cnf.specs.Clauses.{Clause, well_formed, all_well_formed}
@@ -66,9 +66,6 @@ module _ {X : Type 0} (layout : Layout X) where
 
       pub room_more : (room : ℕ) (c : Clause) → length front + length (layout.write c) ≤ room → has_room layout room (layout.read front ++ c ∷ []) ≡ true
       room_more room c h = le-leb _ _ (omega (arith, more_size c))
-
-      pub no_room_more : (room : ℕ) (c : Clause) → room < length front + length (layout.write c) → has_room layout room (layout.read front ++ c ∷ []) ≡ false
-      no_room_more room c h = lt-leb _ _ (omega (arith, more_size c))
 
       -- the first clauses alone end after so many marks
       pub after_first : (k : ℕ) → place_after_mark layout.mark k front ≡ length (written layout (take k (layout.read front)))

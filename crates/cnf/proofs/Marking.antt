@@ -1,7 +1,8 @@
 -- Where the parts of a list end: a step of a walk, and of parts joined one after another the k-th ends where the first k
 -- do.
-use Rattle.std.proofs.Common.{◌≡◌, ℕ, zero, suc, ◌+◌, ◌-◌, ◌<◌, ◌≤◌, Bool, true, false, cond, List, [], ◌∷◌, ◌++◌, length, get_or, take, drop, sym, refl, ap, ◌∙◌, append_assoc, append-nil, arith, length-append}
-use Rattle.std.proofs.lemmas.List.{at_drop_more, at_drop_all, take-append-drop, take_at, take_all, drop_at, take_more, drop_more}
+use Rattle.std.proofs.Common.{◌≡◌, ℕ, zero, suc, ◌+◌, ◌-◌, ◌<◌, ◌≤◌, Bool, true, false, cond, List, [], ◌∷◌, ◌++◌, length, get_or, take, drop, sym, refl, ap, ◌∙◌, append_assoc, append-nil, add-one, inl, inr, arith, length-append}
+use Rattle.std.proofs.lemmas.List.{at_drop_more, take-append-drop, take_at, take_all, drop_at, take_more, drop_more}
+use Rattle.std.proofs.lemmas.Bool.{cases_lt}
 use Rattle.std.specs.List.{between, flat_map, AllByRecursion}
 use Rattle.cnf.specs.Marks.{marks, place_after_mark, IsPart}
 
@@ -14,10 +15,6 @@ module _ {X : Type 0} (mark : X → Bool) where
       at_drop_more (place_after_mark mark (suc k)) xs i x h ∙ ap (λ y. suc (place_after_mark mark (cond (mark y) k (suc k)) (drop (i + 1) xs))) (sym e)
       ∙ ap (λ c. suc (place_after_mark mark (cond c k (suc k)) (drop (i + 1) xs))) (sym q)
       ∙ ap (λ j. suc (place_after_mark mark (cond b j (suc k)) (drop (i + 1) xs))) (sym less) ∙ ap (λ j. suc (place_after_mark mark j (drop (i + 1) xs))) (sym r) ∙ omega arith
-
-  pub after_end : (xs : List X) (i k : ℕ) → length xs ≤ i → place_after_mark mark k (drop i xs) ≡ 0
-  after_end xs i zero h = refl
-  after_end xs i (suc k) h = at_drop_all (place_after_mark mark (suc k)) xs i h
 
   pub after_within : (k : ℕ) (xs : List X) → place_after_mark mark k xs ≤ length xs
   after_within zero xs = omega arith
@@ -33,6 +30,22 @@ module _ {X : Type 0} (mark : X → Bool) where
         | true ↦ λ l. omega (arith, after_next k xs (omega arith))
         | false ↦ λ l. omega (arith, after_next (suc k) xs (omega arith))
       ] h
+
+  pub after_more : (k : ℕ) (xs : List X) → place_after_mark mark k xs ≤ place_after_mark mark (k + 1) xs
+  after_more k xs =
+      rw add-one (
+      elim (cases_lt (place_after_mark mark (suc k) xs) (length xs)) [
+        | inl inside ↦ omega (arith, after_next k xs inside)
+        | inr beyond ↦ omega (arith, after_within k xs)
+      ]
+      )
+
+  -- another test that finds the same marks finds the same places
+  pub after_same : (other : X → Bool) → ((x : X) → mark x ≡ other x) → (k : ℕ) (xs : List X) → place_after_mark mark k xs ≡ place_after_mark other k xs
+  after_same other same zero xs = refl
+  after_same other same (suc k) [] = refl
+  after_same other same (suc k) (x ∷ xs) =
+      ap (λ b. suc (place_after_mark mark (cond b k (suc k)) xs)) (same x) ∙ ap suc (after_same other same (cond (other x) k (suc k)) xs)
 
   pub marks_append : (xs ys : List X) → marks mark (xs ++ ys) ≡ marks mark xs + marks mark ys
   marks_append [] ys = omega arith

@@ -1,8 +1,10 @@
 -- A list written into a table that has room for it: its front up to there, its length, and one list after another.
 use Rattle.std.proofs.Common.{◌≡◌, ℕ, suc, ◌+◌, ◌<◌, ◌≤◌, List, [], ◌∷◌, ◌++◌, length, take, drop, set, sym, refl, ap, ◌∙◌, append_assoc, arith, length-append, length-drop}
+use borrow.Rule.Slice.PartMut.{put_mid}
 use lib.Seq.{paste}
 use Rattle.std.proofs.lemmas.List.Edits.{paste_all, paste-paste}
-use Rattle.std.proofs.lemmas.List.{take_at, length-take-le, set_split, take-append-drop}
+use Rattle.std.proofs.lemmas.List.{take_at, length-take-le, set_split}
+use Rattle.std.proofs.lemmas.Slice.{put_mid-paste}
 use Rattle.cnf.specs.Tables.{overwritten}
 
 module _ {X : Type 0} (at : ℕ) (xs before : List X) (room : at + length xs ≤ length before) where
@@ -33,12 +35,15 @@ overwritten_then at xs ys before h =
     ∙ ap (paste before at (xs ++ ys)) (sym (length-append xs ys))
     ∙ paste_all before at (xs ++ ys) (length (xs ++ ys)) refl
 
+-- a list copied into a part of its length
+pub overwritten_part : {X : Type 0} (at k : ℕ) (xs ys before : List X) → ys ≡ xs → length xs ≡ k → put_mid at k before ys ≡ overwritten at xs before
+overwritten_part at k xs ys before e n =
+    put_mid-paste at k before ys xs k e refl (sym n) ∙ paste_all before at xs k (sym n) ∙ ap (λ m. take at before ++ (xs ++ drop (at + m) before)) (sym n)
+
 pub overwritten_one : {X : Type 0} (at : ℕ) (x : X) (before : List X) → at < length before → set before at x ≡ overwritten at (x ∷ []) before
 overwritten_one at x before h = set_split before at x h ∙ ap (λ n. take at before ++ (x ∷ drop n before)) (let e : suc at ≡ at + 1 = omega arith in e)
 
-pub overwritten_none : {X : Type 0} (at : ℕ) (before : List X) → before ≡ overwritten at [] before
-overwritten_none at before = sym (take-append-drop at before) ∙ ap (λ n. take at before ++ drop n before) (let e : at ≡ at + 0 = omega arith in e)
-
-pub overwritten_on : {X : Type 0} {to : ℕ} {mid after : List X} (at : ℕ) (xs ys zs before : List X) → at ≤ length before → xs ++ ys ≡ zs → mid ≡ overwritten at xs before → to ≡ at + length xs → after ≡ overwritten to ys mid → after ≡ overwritten at zs before
-overwritten_on {X} {to} at xs ys zs before h e m t a =
-    a ∙ ap (overwritten to ys) m ∙ ap (λ n. overwritten n ys (overwritten at xs before)) t ∙ overwritten_then at xs ys before h ∙ ap (λ ws. overwritten at ws before) e
+-- what was written, and more behind it, is the two joined
+pub overwritten_next : {X : Type 0} {to : ℕ} {mid : List X} (at : ℕ) (xs ys zs before : List X) → at ≤ length before → xs ++ ys ≡ zs → mid ≡ overwritten at xs before → to ≡ at + length xs → overwritten to ys mid ≡ overwritten at zs before
+overwritten_next {X} {to} at xs ys zs before h e m t =
+    ap (overwritten to ys) m ∙ ap (λ n. overwritten n ys (overwritten at xs before)) t ∙ overwritten_then at xs ys before h ∙ ap (λ ws. overwritten at ws before) e

@@ -1,5 +1,5 @@
 -- A list of clauses that a page takes one by one: what is done of it and what is left.
-use Rattle.std.proofs.Common.{◌≡◌, ℕ, suc, ◌+◌, ◌-◌, ◌<◌, ◌≤◌, Bool, true, false, cond, List, [], ◌∷◌, ◌++◌, Ok, Err, Result, sym, refl, ap, ◌∙◌, inl, inr, append_assoc, append-nil, add-one, arith, MatchResult}
+use Rattle.std.proofs.Common.{◌≡◌, ℕ, suc, ◌+◌, ◌-◌, ◌<◌, Bool, true, false, cond, List, [], ◌∷◌, ◌++◌, Ok, Err, Result, sym, refl, ap, ◌∙◌, inl, inr, append_assoc, append-nil, add-one, arith, MatchResult}
 use Rattle.std.proofs.lemmas.Bool.{both_ways, cases_Bool}
 use Rattle.fault.specs.declared.sheet.SheetFault.{SheetFault}
 use Rattle.std.proofs.lemmas.Result.{MatchResult-weaker}
@@ -10,7 +10,8 @@ use Rattle.text.specs.Rows.{Clause, Page, grown, fits}
 use Rattle.text.specs.Calls.{Gave, NotGiven, WasCut, NotCut, Whole, first_rows}
 use Rattle.text.proofs.Laws.{grown_grown, fits_more, fits_front, cut_back_page}
 use Rattle.pb.specs.Sums.{weight_sum}
-use Rattle.direct.specs.Lists.{least, chosen, listed_from, listed, direct_list}
+use Rattle.encode.specs.Direct.{least, chosen}
+use Rattle.direct.specs.Lists.{listed_from, listed, direct_list}
 use Rattle.direct.specs.Encoding.{Took, Stopped, Gives}
 
 -- what does not fit does not with more after it
@@ -104,8 +105,3 @@ module _ (flip : Bool) (ts : List Weighted) (bound total mask : ℕ) where
 
   pub left_out : mask < total → least ts bound mask ≡ false → listed_from (total - mask) mask flip ts bound ≡ listed_from (total - (mask + 1)) (mask + 1) flip ts bound
   left_out h e = left_more h ∙ ap (λ b. cond b (chosen flip ts mask ∷ []) [] ++ listed_from (total - (mask + 1)) (mask + 1) flip ts bound) e
-
-  pub left_none : total ≤ mask → listed_from (total - mask) mask flip ts bound ≡ []
-  left_none h =
-      let k : total - mask ≡ 0 = omega arith in
-      ap (λ n. listed_from n mask flip ts bound) k

@@ -5,8 +5,8 @@ use Rattle.fault.specs.declared.sheet.SheetFault.TheVariants.{Full}
 use Rattle.pb.specs.declared.working.Sense.{Sense}
 use Rattle.pb.specs.declared.working.Weighted.{Weighted}
 use Rattle.text.specs.Rows.{Clause, Page, grown, fits}
-use Rattle.direct.specs.declared.encode_fault.EncodeFault.{EncodeFault}
-use Rattle.direct.specs.declared.encode_fault.EncodeFault.TheVariants.{Reach, Sheet}
+use Rattle.encode.specs.declared.encode_fault.EncodeFault.{EncodeFault}
+use Rattle.encode.specs.declared.encode_fault.EncodeFault.TheVariants.{Reach, Sheet}
 use Rattle.direct.specs.Lists.{direct_list, direct_reach}
 
 -- all clauses fit, and stand after what was there

@@ -1,37 +1,12 @@
 -- The direct list of a working line: a clause for each least set of terms that an assignment cannot all miss.
--- A set of terms is a mask, whose lowest bit stands for the first term.
-use Rattle.std.specs.Prelude.{ℕ, zero, suc, ◌+◌, ◌-◌, ◌/◌, ◌%◌, ◌^◌, Bool, true, false, cond, ◌&&◌, List, [], ◌∷◌, ◌++◌, length, ℤ, neg_ℤ, ◌==◌, nat_le, nat_lt}
+-- A set of terms is a mask, whose lowest bit stands for the first term. The sets are those of the other direct encoder; a
+-- clause is here the list of its literals.
+use Rattle.std.specs.Prelude.{ℕ, zero, suc, ◌-◌, ◌^◌, Bool, true, false, cond, List, [], ◌∷◌, ◌++◌, length, ℤ, nat_le}
 use Rattle.pb.specs.declared.working.Sense.{Sense}
 use Rattle.pb.specs.declared.working.Sense.TheVariants.{AtLeast, Exactly}
 use Rattle.pb.specs.declared.working.Weighted.{Weighted}
 use Rattle.pb.specs.Sums.{weight_sum}
-
--- whether the first term is in the set
-abbrev pub has_first : ℕ → Bool
-has_first mask = mask % 2 == 1
-
--- the sum of the weights outside a set
-abbrev pub outside : List Weighted → ℕ → ℕ
-outside [] mask = 0
-outside (t ∷ ts) mask = cond (has_first mask) 0 t.weight + outside ts (mask / 2)
-
--- whether each weight in a set brings the sum to the bound or above
-abbrev pub each_lifts : List Weighted → ℕ → ℕ → ℕ → Bool
-each_lifts [] mask sum bound = true
-each_lifts (t ∷ ts) mask sum bound = cond (has_first mask) (nat_le bound (sum + t.weight)) true && each_lifts ts (mask / 2) sum bound
-
--- the weights outside total below the bound, and taking any term out of the set lifts them to the bound or more
-abbrev pub least : List Weighted → ℕ → ℕ → Bool
-least ts bound mask = nat_lt (outside ts mask) bound && each_lifts ts mask (outside ts mask) bound
-
--- the literals of a set, in term order, or their complements
-abbrev pub flipped : Bool → ℤ → ℤ
-flipped true l = neg_ℤ l
-flipped false l = l
-
-abbrev pub chosen : Bool → List Weighted → ℕ → List ℤ
-chosen flip [] mask = []
-chosen flip (t ∷ ts) mask = cond (has_first mask) (flipped flip t.literal ∷ []) [] ++ chosen flip ts (mask / 2)
+use Rattle.encode.specs.Direct.{least, chosen}
 
 -- the clauses of so many masks, from one on
 abbrev pub listed_from : ℕ → ℕ → Bool → List Weighted → ℕ → List (List ℤ)

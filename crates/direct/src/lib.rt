@@ -1,9 +1,10 @@
-// The direct encoder: a clause for each least set of terms that an assignment cannot all miss.
+// The direct encoder over the sheet of DIMACS text: a clause for each least set of terms that an assignment cannot all
+// miss.
 #![tactic(auto)]
 
-pub mod encode_fault;
 pub mod encoder;
 mod listing;
-mod sets;
 #[cfg(test)]
 mod tests;
+
+pub use encode::encode_fault;

@@ -3,4 +3,5 @@
 
 pub mod encoder;
 mod listing;
-mod sets;
+pub mod sets;
+pub mod short_line;

@@ -1,55 +1,69 @@
 // The clauses of a line, given to a sheet mask by mask.
-ghost use Rattle.std.specs.Prelude.{◌≤◌, length};
 ghost use Rattle.cnf.specs.Sheets.{Poured};
 ghost use Rattle.encode.specs.Direct.{listed, direct_clauses};
+ghost use Rattle.direct_encoder.specs.Masks.{listed_at};
 
-use crate::sets;
+use crate::sets::ShortTerms;
+use crate::short_line::ShortLine;
 use cnf::listing::Listing;
 use cnf::sheet::Sheet;
 use fault::sheet::SheetFault;
-use pb::working::{Sense, Weighted, WorkingLine};
+use pb::working::Sense;
 
-// The least sets of a line that is short enough to try every set of its terms.
-#[derive(Drop)]
-pub(crate) struct LeastSets<'a> {
-    pub(crate) line: WorkingLine<'a>,
-    ghost few: { length line.terms.now ≤ 12 },
-}
-
-impl Listing for LeastSets<'_> {
-    ghost clauses = { λ l. direct_clauses l.line.sense l.line.bound l.line.terms.now };
+impl Listing for ShortLine<'_> {
+    ghost clauses = { λ l. direct_clauses l.sense l.bound l.terms.terms.now };
 
     fn pour<S: Sheet>(&self, sheet: &mut S) -> Result<(), SheetFault> {
-        let terms = self.line.terms;
-        let bound = u64::from(self.line.bound);
-        give_listed(sheet, false, terms, bound)?;
-        match self.line.sense {
+        let bound = u64::from(self.bound);
+        let reached = LeastSets {
+            terms: self.terms,
+            bound,
+            flip: false,
+        };
+        reached.pour(sheet)?;
+        match self.sense {
             Sense::AtLeast => Ok(()),
             Sense::Exactly => {
                 // no more than the bound counts where the complements count what it leaves of the sum
-                let left = sets::sum_of(terms).saturating_sub(bound);
-                give_listed(sheet, true, terms, left)
+                let kept = LeastSets {
+                    terms: self.terms,
+                    bound: self.terms.sum().saturating_sub(bound),
+                    flip: true,
+                };
+                kept.pour(sheet)
             }
         }
     }
 }
 
-// Gives the clause of each least set, of the literals or of their complements, up to the first that is refused.
-fn give_listed<S: Sheet>(
-    sheet: &mut S,
-    flip: bool,
-    terms: &[Weighted],
+// The least sets of terms, where their literals are to reach a bound, or with `flip` their complements are.
+#[derive(Drop)]
+struct LeastSets<'a> {
+    terms: ShortTerms<'a>,
     bound: u64,
-) -> Result<(), SheetFault>
-    requires { length terms.now ≤ 12 }
-    ensures { Poured S.Sheet sheet.old sheet.new result (listed flip terms.now bound) }
-{
-    let mut clause = [0; sets::MOST_TERMS];
-    for mask in 0..sets::sets_of(terms) {
-        if sets::is_least(terms, bound, mask) {
-            let n = sets::choose(terms, mask, flip, &mut clause);
-            sheet.give(&clause[..n])?;
+    // Kept: a bool, since the definitions choose the literals or their complements by this same one.
+    flip: bool,
+}
+
+impl LeastSets<'_> {
+    // Gives the clause of a set, if it is a least one.
+    fn give<S: Sheet>(&self, mask: u32, sheet: &mut S) -> Result<(), SheetFault>
+        ensures { Poured S.Sheet sheet.old sheet.new result (listed_at self.now.flip self.now.terms.terms.now self.now.bound mask) }
+    {
+        if self.terms.is_least(self.bound, mask) {
+            sheet.give(&self.terms.choose(mask, self.flip))?;
         }
+        Ok(())
     }
-    Ok(())
+}
+
+impl Listing for LeastSets<'_> {
+    ghost clauses = { λ l. listed l.flip l.terms.terms.now l.bound };
+
+    fn pour<S: Sheet>(&self, sheet: &mut S) -> Result<(), SheetFault> {
+        for mask in 0..self.terms.sets() {
+            self.give(mask, sheet)?;
+        }
+        Ok(())
+    }
 }

@@ -1,72 +1,101 @@
-// Sets of terms, by mask: the lowest bit stands for the first term.
-ghost use Rattle.std.specs.Prelude.{◌≡◌, ◌^◌, ◌<◌, ◌≤◌, length, take};
+// Terms few enough to try every set of them, and their sets, by mask: the lowest bit stands for the first term.
+ghost use Rattle.std.specs.Prelude.{◌≡◌, ◌^◌, ◌≤◌, ◌↔◌, length, IsSome, IfSome};
 ghost use Rattle.pb.specs.Sums.{weight_sum};
 ghost use Rattle.encode.specs.Direct.{outside, each_lifts, least, flipped, chosen};
+ghost use Rattle.direct_encoder.specs.Masks.{in_set};
 
+use arrayvec::ArrayVec;
 use pb::working::Weighted;
 
-// A line of so many terms has few enough sets to try each.
-pub(crate) const MOST_TERMS: usize = 12;
+// So many terms have few enough sets to try each.
+pub const MOST_TERMS: usize = 12;
 
-// The sum of all weights.
-pub(crate) fn sum_of(terms: &[Weighted]) -> u64
-    requires { length terms.now ≤ 12 }
-    ensures { result ≡ weight_sum terms.now }
-{
-    let mut total: u64 = 0;
-    for t in terms {
-        total += u64::from(t.weight);
-    }
-    total
+// Terms that are no more than that.
+#[derive(Clone, Copy)]
+pub struct ShortTerms<'a> {
+    pub terms: &'a [Weighted],
+    ghost few: { length terms.now ≤ 12 },
 }
 
-// How many sets of terms there are.
-pub(crate) fn sets_of(terms: &[Weighted]) -> u32
-    requires { length terms.now ≤ 12 }
-    ensures { result ≡ 2 ^ length terms.now }
-{
-    1 << terms.len()
-}
-
-// The sum of the weights outside a set.
-fn outside_of(terms: &[Weighted], mask: u32) -> u64
-    requires { length terms.now ≤ 12 }
-    ensures value { result ≡ outside terms.now mask }
-    ensures small { result < 2 ^ 36 }
-{
-    let mut rest = mask;
-    let mut sum: u64 = 0;
-    for t in terms {
-        if rest % 2 != 1 {
-            sum += u64::from(t.weight);
+impl<'a> ShortTerms<'a> {
+    // These terms, if they are few enough.
+    pub fn new(terms: &'a [Weighted]) -> Option<ShortTerms<'a>>
+        ensures within { IsSome result ↔ (length terms.now ≤ 12) }
+        ensures same { IfSome result (λ short. short.terms.now ≡ terms.now) }
+    {
+        if terms.len() <= MOST_TERMS {
+            Some(ShortTerms { terms })
+        } else {
+            None
         }
-        rest /= 2;
     }
-    sum
-}
 
-// Whether each weight in a set brings the sum to the bound or above.
-fn lifts(terms: &[Weighted], mask: u32, sum: u64, bound: u64) -> bool
-    requires { sum < 2 ^ 36 }
-    ensures { result ≡ each_lifts terms.now mask sum bound }
-{
-    let mut rest = mask;
-    for t in terms {
-        if rest % 2 == 1 && sum + u64::from(t.weight) < bound {
-            return false;
+    // The sum of all weights.
+    pub fn sum(self) -> u64
+        ensures { result ≡ weight_sum self.entry.terms.now }
+    {
+        self.terms.iter().map(|t| u64::from(t.weight)).sum()
+    }
+
+    // How many sets of terms there are.
+    pub fn sets(self) -> u32
+        ensures { result ≡ 2 ^ length self.entry.terms.now }
+    {
+        1 << self.terms.len()
+    }
+
+    // Whether a set is a least one that cannot all be missed.
+    pub fn is_least(self, bound: u64, mask: u32) -> bool
+        ensures { result ≡ least self.entry.terms.now bound mask }
+    {
+        let sum = self.outside(mask);
+        sum < bound && self.lifts(mask, sum, bound)
+    }
+
+    // The sum of the weights outside a set.
+    fn outside(self, mask: u32) -> u64
+        ensures { result ≡ outside self.entry.terms.now mask }
+    {
+        self.terms
+            .iter()
+            .enumerate()
+            .filter(|(place, _)| !has(mask, *place))
+            .map(|(_, t)| u64::from(t.weight))
+            .sum()
+    }
+
+    // Whether each weight in a set brings the sum to the bound or above.
+    fn lifts(self, mask: u32, sum: u64, bound: u64) -> bool
+        ensures { result ≡ each_lifts self.entry.terms.now mask sum bound }
+    {
+        let missing = bound.saturating_sub(sum);
+        self.terms
+            .iter()
+            .enumerate()
+            .filter(|(place, _)| has(mask, *place))
+            .all(|(_, t)| missing <= u64::from(t.weight))
+    }
+
+    // The literals of a set, or their complements.
+    // Kept: a bool, since the definitions choose by this same one.
+    pub fn choose(self, mask: u32, flip: bool) -> ArrayVec<i32, MOST_TERMS>
+        ensures { result.items ≡ chosen flip self.entry.terms.now mask }
+    {
+        let mut clause = ArrayVec::new();
+        for (place, t) in self.terms.iter().enumerate() {
+            if has(mask, place) {
+                clause.push(turned(t.literal, flip));
+            }
         }
-        rest /= 2;
+        clause
     }
-    true
 }
 
-// Whether a set is a least one that cannot all be missed.
-pub(crate) fn is_least(terms: &[Weighted], bound: u64, mask: u32) -> bool
-    requires { length terms.now ≤ 12 }
-    ensures { result ≡ least terms.now bound mask }
+// Whether the term at a place is in a set.
+fn has(mask: u32, place: usize) -> bool
+    ensures { result ≡ in_set mask place }
 {
-    let sum = outside_of(terms, mask);
-    sum < bound && lifts(terms, mask, sum, bound)
+    place < 32 && (mask >> place) % 2 == 1
 }
 
 // A literal or its complement, as clauses have it.
@@ -75,27 +104,4 @@ fn turned(literal: i16, flip: bool) -> i32
 {
     let wide = i32::from(literal);
     if flip { -wide } else { wide }
-}
-
-// Writes the literals of a set, or their complements, and says how many there are.
-pub(crate) fn choose(
-    terms: &[Weighted],
-    mask: u32,
-    flip: bool,
-    clause: &mut [i32; MOST_TERMS],
-) -> usize
-    requires { length terms.now ≤ 12 }
-    ensures within { result ≤ 12 }
-    ensures written { take result clause.new ≡ chosen flip terms.now mask }
-{
-    let mut rest = mask;
-    let mut n = 0;
-    for t in terms {
-        if rest % 2 == 1 {
-            clause[n] = turned(t.literal, flip);
-            n += 1;
-        }
-        rest /= 2;
-    }
-    n
 }

@@ -5,12 +5,10 @@ mod LeastSets
 mod LeastLists
 mod DirectNaming
 pub mod Directing
-pub mod DirectCases
 mod Parts
 mod OrderNaming
 mod Matrix
 mod Places
 pub mod Ordering
-pub mod OrderCases
 pub mod Modelling
 pub mod Choosing

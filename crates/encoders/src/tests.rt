@@ -1,3 +1,4 @@
+// Small lines, and what each encoder puts of them on real sheets.
 use choose::UpTo;
 use cnf::sheet::Sheet;
 use direct_encoder::encoder::Direct;
@@ -6,24 +7,18 @@ use encode::encoder::Encoder;
 use fault::sheet::SheetFault;
 use flat::sheet::FlatSheet;
 use order::encoder::Order;
+use pb::working::Sense::{AtLeast, Exactly};
 use pb::working::{Sense, Weighted, WorkingLine};
+use text_sheet::finished::finish;
 use text_sheet::sheet::TextSheet;
 
 const fn on(weight: u32, literal: i16) -> Weighted {
     Weighted { weight, literal }
 }
 
-fn at_least(bound: u32, terms: &[Weighted]) -> WorkingLine<'_> {
+fn line(sense: Sense, bound: u32, terms: &[Weighted]) -> WorkingLine<'_> {
     WorkingLine {
-        sense: Sense::AtLeast,
-        bound,
-        terms,
-    }
-}
-
-fn exactly(bound: u32, terms: &[Weighted]) -> WorkingLine<'_> {
-    WorkingLine {
-        sense: Sense::Exactly,
+        sense,
         bound,
         terms,
     }
@@ -36,20 +31,30 @@ fn direct_names_the_least_sets(rt: HostRuntime) {
     let mut sheet = TextSheet::new(&mut bytes);
     assert!(rt;
         matches!(
-            Direct::new().encode(at_least(4, &terms), 4, &mut sheet),
+            Direct::new().encode(line(AtLeast, 4, &terms), 4, &mut sheet),
             Ok(2)
         )
     );
     assert!(rt;
         matches!(
-            Direct::new().encode(exactly(4, &terms), 4, &mut sheet),
+            Direct::new().encode(line(Exactly, 4, &terms), 4, &mut sheet),
             Ok(3)
         )
     );
-    assert!(rt; matches!(Direct::new().encode(at_least(0, &[]), 4, &mut sheet), Ok(0)));
-    assert!(rt; matches!(Direct::new().encode(at_least(1, &[]), 4, &mut sheet), Ok(1)));
+    assert!(rt;
+        matches!(
+            Direct::new().encode(line(AtLeast, 0, &[]), 4, &mut sheet),
+            Ok(0)
+        )
+    );
+    assert!(rt;
+        matches!(
+            Direct::new().encode(line(AtLeast, 1, &[]), 4, &mut sheet),
+            Ok(1)
+        )
+    );
     assert_eq!(rt;
-        sheet.finish().bytes(),
+        finish(sheet).bytes(),
         b"1 2 0\n3 0\n1 2 0\n3 0\n-2 -3 0\n0\n".as_slice()
     );
 }
@@ -61,19 +66,24 @@ fn order_counts_in_a_matrix(rt: HostRuntime) {
     let mut sheet = TextSheet::new(&mut bytes);
     assert!(rt;
         matches!(
-            Order::new().encode(at_least(2, &terms), 3, &mut sheet),
+            Order::new().encode(line(AtLeast, 2, &terms), 3, &mut sheet),
             Ok(12)
         )
     );
     assert!(rt;
         matches!(
-            Order::new().encode(exactly(0, &terms), 7, &mut sheet),
+            Order::new().encode(line(Exactly, 0, &terms), 7, &mut sheet),
             Ok(6)
         )
     );
-    assert!(rt; matches!(Order::new().encode(at_least(1, &[]), 9, &mut sheet), Ok(1)));
+    assert!(rt;
+        matches!(
+            Order::new().encode(line(AtLeast, 1, &[]), 9, &mut sheet),
+            Ok(1)
+        )
+    );
     assert_eq!(rt;
-        sheet.finish().bytes(),
+        finish(sheet).bytes(),
         b"-1 3 0\n1 -3 0\n-1 4 0\n1 -4 0\n-3 5 0\n-2 5 0\n2 3 -5 0\n-4 6 0\n-2 -3 6 0\n2 4 -6 0\n3 -6 0\n6 0\n-1 7 0\n1 -7 0\n-7 8 0\n-2 8 0\n2 7 -8 0\n-8 0\n0\n".as_slice()
     );
 }
@@ -81,22 +91,27 @@ fn order_counts_in_a_matrix(rt: HostRuntime) {
 #[test]
 fn reach_ends_where_it_should(rt: HostRuntime) {
     let terms = [on(1, 1); 65];
-    assert!(rt; matches!(Direct::new().reach(at_least(1, &terms[0..12])), Some(0)));
-    assert!(rt; matches!(Direct::new().reach(at_least(1, &terms[0..13])), None));
     assert!(rt;
         matches!(
-            Order::new().reach(at_least(256, &terms[0..64])),
+            Direct::new().reach(line(AtLeast, 1, &terms[0..12])),
+            Some(0)
+        )
+    );
+    assert!(rt; matches!(Direct::new().reach(line(AtLeast, 1, &terms[0..13])), None));
+    assert!(rt;
+        matches!(
+            Order::new().reach(line(AtLeast, 256, &terms[0..64])),
             Some(16_384)
         )
     );
     assert!(rt;
         matches!(
-            Order::new().reach(exactly(255, &terms[0..64])),
+            Order::new().reach(line(Exactly, 255, &terms[0..64])),
             Some(16_384)
         )
     );
-    assert!(rt; matches!(Order::new().reach(exactly(256, &terms[0..64])), None));
-    assert!(rt; matches!(Order::new().reach(at_least(257, &terms[0..64])), None));
+    assert!(rt; matches!(Order::new().reach(line(Exactly, 256, &terms[0..64])), None));
+    assert!(rt; matches!(Order::new().reach(line(AtLeast, 257, &terms[0..64])), None));
 }
 
 #[test]
@@ -107,20 +122,20 @@ fn a_refused_line_leaves_the_sheet(rt: HostRuntime) {
     assert!(rt; matches!(sheet.give(&[9]), Ok(1)));
     assert!(rt;
         matches!(
-            Direct::new().encode(at_least(1, &terms), 2, &mut sheet),
+            Direct::new().encode(line(AtLeast, 1, &terms), 2, &mut sheet),
             Err(EncodeFault::Reach)
         )
     );
     assert!(rt;
         matches!(
-            Order::new().encode(at_least(2, &terms), 2, &mut sheet),
+            Order::new().encode(line(AtLeast, 2, &terms), 2, &mut sheet),
             Err(EncodeFault::Sheet(SheetFault::Full(1)))
         )
     );
     // the numbers run past 60,000
     assert!(rt;
         matches!(
-            Order::new().encode(at_least(1, &terms), 60_000, &mut sheet),
+            Order::new().encode(line(AtLeast, 1, &terms), 60_000, &mut sheet),
             Err(EncodeFault::Sheet(SheetFault::Malformed(1)))
         )
     );
@@ -136,11 +151,16 @@ fn one_of_two_encoders_is_chosen_by_terms(rt: HostRuntime) {
         few: Direct::new(),
         many: Order::new(),
     };
-    assert!(rt; matches!(both.reach(at_least(1, &terms[0..2])), Some(0)));
-    assert!(rt; matches!(both.reach(at_least(1, &terms)), Some(3)));
+    assert!(rt; matches!(both.reach(line(AtLeast, 1, &terms[0..2])), Some(0)));
+    assert!(rt; matches!(both.reach(line(AtLeast, 1, &terms)), Some(3)));
     let mut bytes = [0; 128];
     let mut sheet = TextSheet::new(&mut bytes);
-    assert!(rt; matches!(both.encode(at_least(1, &terms[0..2]), 4, &mut sheet), Ok(1)));
-    assert!(rt; matches!(both.encode(at_least(1, &terms), 4, &mut sheet), Ok(9)));
+    assert!(rt;
+        matches!(
+            both.encode(line(AtLeast, 1, &terms[0..2]), 4, &mut sheet),
+            Ok(1)
+        )
+    );
+    assert!(rt; matches!(both.encode(line(AtLeast, 1, &terms), 4, &mut sheet), Ok(9)));
     assert_eq!(rt; sheet.count(), 10);
 }

@@ -3,6 +3,7 @@
 use crate::book::BookFault;
 use crate::line::LineFault;
 
+// Kept: an offset and a fault, and no `At`, since the enum is public, can be copied, and is matched so by the definitions.
 #[derive(Clone, Copy)]
 pub enum FileFault {
     // the record that begins here is cut short

@@ -24,12 +24,13 @@ impl Refusal {
     }
 }
 
-impl LineFault {
-    // The refusal of a line that a record at this offset of a file holds.
-    pub fn refusal(self, offset: usize) -> Refusal
-        ensures { result ≡ line_refusal self offset }
-    {
-        match self {
+// The refusal of a line that the record at this offset of a file holds.
+impl From<At<LineFault>> for Refusal {
+    ghost from_gives = { λ a r. r ≡ line_refusal a.fault a.offset };
+
+    fn from(a: At<LineFault>) -> Refusal {
+        let offset = a.offset;
+        match a.fault {
             LineFault::Relation => Refusal::new(2, Layer::Lines, 0, offset),
             LineFault::Bound => Refusal::new(3, Layer::Lines, 0, offset),
             LineFault::Terms => Refusal::new(4, Layer::Lines, 0, offset),
@@ -39,12 +40,13 @@ impl LineFault {
     }
 }
 
-impl BookFault {
-    // The refusal of a call on the book; the offset is 0 outside a file.
-    pub fn refusal(self, offset: usize) -> Refusal
-        ensures { result ≡ book_refusal self offset }
-    {
-        match self {
+// The refusal of a call on the book; the offset is 0 outside a file.
+impl From<At<BookFault>> for Refusal {
+    ghost from_gives = { λ a r. r ≡ book_refusal a.fault a.offset };
+
+    fn from(a: At<BookFault>) -> Refusal {
+        let offset = a.offset;
+        match a.fault {
             BookFault::Variables => Refusal::new(1, Layer::Book, 0, offset),
             BookFault::Full(held) => Refusal::new(7, Layer::Book, held, offset),
             BookFault::Reach(line) => Refusal::new(10, Layer::Book, line, offset),
@@ -55,6 +57,7 @@ impl BookFault {
 
 impl SheetFault {
     // The same refusal of an outer call, before which the sheet held so many clauses.
+    // Kept: an arm for each variant, since the count stands in each, as the enum has been public.
     pub fn of_outer_call(self, before: usize) -> SheetFault
         ensures { result ≡ placed before self }
     {
@@ -64,30 +67,17 @@ impl SheetFault {
             SheetFault::Cut(_) => SheetFault::Cut(before),
         }
     }
+}
 
-    // The refusal of a call on a sheet, which is outside any file.
-    pub fn refusal(self) -> Refusal
-        ensures { result ≡ sheet_refusal self }
-    {
-        match self {
+// The refusal of a call on a sheet, which is outside any file.
+impl From<SheetFault> for Refusal {
+    ghost from_gives = { λ fault r. r ≡ sheet_refusal fault };
+
+    fn from(fault: SheetFault) -> Refusal {
+        match fault {
             SheetFault::Malformed(count) => Refusal::new(14, Layer::Sheet, count, 0),
             SheetFault::Full(count) => Refusal::new(15, Layer::Sheet, count, 0),
             SheetFault::Cut(count) => Refusal::new(16, Layer::Sheet, count, 0),
-        }
-    }
-}
-
-impl FileFault {
-    // The refusal of a file: a fault of the form has its place for an offset.
-    pub fn refusal(self) -> Refusal
-        ensures { result ≡ file_refusal self }
-    {
-        match self {
-            FileFault::Short(at) => Refusal::new(17, Layer::File, at, at),
-            FileFault::Mark(at) => Refusal::new(18, Layer::File, at, at),
-            FileFault::Trailing(at) => Refusal::new(19, Layer::File, at, at),
-            FileFault::Line(offset, fault) => fault.refusal(offset),
-            FileFault::Book(offset, fault) => fault.refusal(offset),
         }
     }
 }
@@ -108,11 +98,18 @@ impl From<At<BookFault>> for FileFault {
     }
 }
 
+// The refusal of a file: a fault of the form has its place for an offset.
 impl From<FileFault> for Refusal {
     ghost from_gives = { λ fault r. r ≡ file_refusal fault };
 
     fn from(fault: FileFault) -> Refusal {
-        fault.refusal()
+        match fault {
+            FileFault::Short(at) => Refusal::new(17, Layer::File, at, at),
+            FileFault::Mark(at) => Refusal::new(18, Layer::File, at, at),
+            FileFault::Trailing(at) => Refusal::new(19, Layer::File, at, at),
+            FileFault::Line(offset, fault) => Refusal::from(At { offset, fault }),
+            FileFault::Book(offset, fault) => Refusal::from(At { offset, fault }),
+        }
     }
 }
 

@@ -1,20 +1,45 @@
-// A sheet over a lent table: the clauses lie one after another in its first cells.
-ghost use Rattle.std.specs.Prelude.{◌≡◌, ◌≤◌, true, length, take};
-ghost use Rattle.cnf.specs.Cells.{clauses_in, cell_layout};
-ghost use Rattle.cnf.specs.Clauses.{all_well_formed};
-ghost use Rattle.cnf.specs.Layouts.{written};
+// A sheet over a lent table: each clause lies there as its literals and a 0 that ends it.
+ghost use Rattle.std.specs.Prelude.{pos};
+ghost use Rattle.cnf.proofs.InCells.{equals_zero, cells_faithful};
+ghost use Rattle.cnf.specs.Cells.{cell_layout};
 
-use crate::cells::Cells;
+use cnf::clause::FormedClause;
+use laid::lay::Lay;
+use laid::sheet::LaidSheet;
 
-mod calls;
+pub struct InCells;
 
-#[derive(Drop)]
-pub struct FlatSheet<'a> {
-    cells: Cells<'a>,
-    used: usize,
-    count: usize,
-    ghost inside: { used ≤ length cells.all.now },
-    ghost formed: { all_well_formed (clauses_in (take used cells.all.now)) ≡ true },
-    ghost shown: { written cell_layout (clauses_in (take used cells.all.now)) ≡ take used cells.all.now },
-    ghost counted: { length (clauses_in (take used cells.all.now)) ≡ count },
+pub type FlatSheet<'a> = LaidSheet<'a, InCells>;
+
+impl Lay for InCells {
+    type Cell = i32;
+
+    const END: i32 = 0;
+
+    ghost END = { pos 0 };
+
+    ghost layout = { cell_layout };
+
+    fn put(cells: &mut [i32], at: usize, clause: FormedClause<'_>) -> Option<usize> {
+        let literals = clause.literals();
+        // the last 0
+        let size = literals.len() + 1;
+        let end = at.checked_add(size)?;
+        if end > cells.len() {
+            return None;
+        }
+        let last = at + literals.len();
+        cells[at..last].copy_from_slice(literals);
+        cells[last] = Self::END;
+        Some(end)
+    }
+
+    fn literal_in(part: &[i32], j: usize) -> Option<i32> {
+        let (_end, literals) = part.split_last()?;
+        literals.get(j.checked_sub(1)?).copied()
+    }
+
+    ghost ends = { equals_zero };
+
+    ghost faithful = { cells_faithful };
 }

@@ -9,7 +9,7 @@ use Rattle.std.proofs.lemmas.Bool.{cases_eq}
 use Rattle.std.proofs.lemmas.Bool.Decides.{nat_tests}
 use Rattle.pb.specs.declared.term.Term.{Term}
 use Rattle.pb.specs.Checks.{Fair}
-use Rattle.pb.specs.Normal.{share, net, lowering, lowered}
+use Rattle.pb.specs.Normal.{share, net, lowered}
 use Rattle.pb.proofs.Fairness.{share_on_other, net_within, lowered_within}
 use Rattle.lines.specs.Nets.{at}
 
@@ -38,14 +38,6 @@ turned_below (negsuc l) w h = refl
 pub turned_above : (l w : ℤ) → lt_z l (pos 0) ≡ false → turned l w ≡ w
 turned_above (pos l) w h = refl
 turned_above (negsuc l) w h = grind arith
-
-pub lowering_below : (l w : ℤ) → lt_z l (pos 0) ≡ true → lowering l w ≡ w
-lowering_below (pos l) w h = grind (arith, nat_tests)
-lowering_below (negsuc l) w h = refl
-
-pub lowering_above : (l w : ℤ) → lt_z l (pos 0) ≡ false → lowering l w ≡ pos 0
-lowering_above (pos l) w h = refl
-lowering_above (negsuc l) w h = grind arith
 
 -- what has to be added to what some of at most 64 fair terms come to
 few_left : (i : ℕ) (ts : List Term) → length ts ≤ 64 → length (drop i ts) ≤ 64

@@ -1,5 +1,5 @@
 -- A lent table of 64 places that takes the terms of a normal form, one variable on.
-use Rattle.std.proofs.Common.{◌≡◌, ℕ, ◌+◌, ◌-◌, ◌<◌, ◌≤◌, List, [], ◌∷◌, ◌++◌, length, take, drop, set, ℤ, sym, refl, ap, ◌∙◌, arith}
+use Rattle.std.proofs.Common.{◌≡◌, ℕ, ◌+◌, ◌-◌, ◌<◌, ◌≤◌, List, [], ◌∷◌, ◌++◌, length, take, drop, set, ℤ, sym, ap, ◌∙◌, arith}
 use Rattle.std.proofs.lemmas.List.{length-set, append-nil, append_assoc, length-append, length-take-le, take_more_set, drop-set-lt, drop-drop}
 use Rattle.pb.specs.declared.working.Weighted.{Weighted}
 use Rattle.pb.specs.Normal.{term_of, gathered}
@@ -54,8 +54,3 @@ module _ (n v : ℕ) (f : ℕ → ℤ) (count : ℕ) (form before : List Weighte
 
   pub written_all : n < v → take count form ≡ gathered n 1 f
   written_all past = sym (append-nil (take count form)) ∙ ap (λ ts. take count form ++ ts) (sym (gathered_past n v f past)) ∙ h.so_far
-
-pub written_nothing : (n : ℕ) (f : ℕ → ℤ) (form : List Weighted) → length form ≡ 64 → Written n 1 f 0 form form
-written_nothing n f form long =
-    let e : n + 1 - 1 ≡ n = omega arith in
-    record { long = long; within = omega arith; so_far = ap (λ k. gathered k 1 f) e; beyond = refl }

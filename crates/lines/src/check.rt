@@ -1,6 +1,6 @@
 // Which lines are refused, and by what.
 ghost use Rattle.std.specs.Prelude.{◌≡◌, Some, None, MatchResult};
-ghost use Rattle.pb.specs.Checks.{relation_of, sized, checked_head, terms_fault};
+ghost use Rattle.pb.specs.Checks.{sized, checked_head, terms_fault};
 
 use fault::line::LineFault;
 use pb::relation::Relation;
@@ -14,28 +14,13 @@ const MOST_TERMS: usize = 64;
 const MOST_WEIGHT: u32 = 10_000;
 
 // The relation of a line by its number, where its bound and the number of its terms are in range.
+// Kept: the number as it is read, since a number that has no relation is refused here, in the order of the faults.
 pub fn check_head(relation: u8, bound: i32, terms: usize) -> Result<Relation, LineFault>
     ensures { result ≡ checked_head relation bound terms }
 {
-    let Some(found) = relation_from(relation) else {
-        return Err(LineFault::Relation);
-    };
+    let found = Relation::try_from(relation)?;
     check_size(bound, terms)?;
     Ok(found)
-}
-
-// The relation of a number, if it has one.
-fn relation_from(number: u8) -> Option<Relation>
-    ensures { result ≡ relation_of number }
-{
-    match number {
-        1 => Some(Relation::AtLeast),
-        2 => Some(Relation::AtMost),
-        3 => Some(Relation::Exactly),
-        4 => Some(Relation::MoreThan),
-        5 => Some(Relation::LessThan),
-        _ => None,
-    }
 }
 
 // The bound first, then the number of terms.

@@ -2,81 +2,49 @@
 // variable at most one term, of positive weight, by rising variable.
 ghost use Rattle.std.specs.Prelude.{◌≡◌, ◌≤◌, MatchResult, unsigned_abs};
 ghost use Rattle.pb.specs.Checks.{Sound};
-ghost use Rattle.pb.specs.Normal.{sense_of, negated, threshold};
+ghost use Rattle.pb.specs.Lines.{entered_line};
+ghost use Rattle.pb.specs.Normal.{threshold};
 ghost use Rattle.lines.specs.Forms.{Formed, Refused, Floor};
 
 use crate::check::{check_size, check_terms};
-use crate::nets;
+use crate::nets::Nets;
 use fault::line::LineFault;
+use pb::constraint::Constraint;
 use pb::relation::Relation;
-use pb::term::Term;
 use pb::variables::Variables;
 use pb::working::{Head, Sense, Weighted};
 
 // Checks a line and writes the terms of its normal form into the table.
 pub fn normal_form(
     variables: Variables,
-    relation: Relation,
-    bound: i32,
-    terms: &[Term],
+    line: Constraint<'_>,
     form: &mut [Weighted; 64],
 ) -> Result<Head, LineFault>
     ensures { MatchResult result
-        (λ f. Formed variables.count (record { relation = relation; bound = bound; terms = terms.now }) f form.old form.new)
-        (λ e. Refused variables.count (record { relation = relation; bound = bound; terms = terms.now }) e form.old form.new) }
+        (λ f. Formed variables.count (entered_line line.entry) f form.old form.new)
+        (λ e. Refused variables.count (entered_line line.entry) e form.old form.new) }
 {
-    check_size(bound, terms.len())?;
-    check_terms(variables, terms)?;
-    Ok(form_of(variables, relation, bound, terms, form))
+    check_size(line.bound, line.terms.len())?;
+    check_terms(variables, line.terms)?;
+    Ok(form_of(variables, line, form))
 }
 
 // The normal form of a line that nothing is wrong with.
-fn form_of(
-    variables: Variables,
-    relation: Relation,
-    bound: i32,
-    terms: &[Term],
-    form: &mut [Weighted; 64],
-) -> Head
-    requires { Sound variables.count (record { relation = relation; bound = bound; terms = terms.now }) }
-    ensures { Formed variables.count (record { relation = relation; bound = bound; terms = terms.now }) result form.old form.new }
+fn form_of(variables: Variables, line: Constraint<'_>, form: &mut [Weighted; 64]) -> Head
+    requires { Sound variables.count (entered_line line) }
+    ensures { Formed variables.count (entered_line line.entry) result form.old form.new }
 {
-    let mut nets = [0; 257];
-    let lowered = nets::fill(is_negated(relation), terms, &mut nets);
-    let raised = nets::raise(variables, &nets);
-    let sense = sense_from(relation);
-    let Some(bound) = floor(sense, bound_from(relation, bound) - lowered + raised as i32) else {
-        // without terms, at least 1 is met by no assignment
-        return Head {
-            sense: Sense::AtLeast,
-            bound: 1,
-            count: 0,
-        };
+    let nets = Nets::new(variables, line);
+    let sense = Sense::from(line.relation);
+    let bound = bound_from(line.relation, line.bound) - nets.lowered() + nets.raised() as i32;
+    let Some(bound) = floor(sense, bound) else {
+        return Head::IMPOSSIBLE;
     };
-    let count = nets::gather(variables, &nets, form);
+    let count = nets.gather(form);
     Head {
         sense,
         bound,
         count,
-    }
-}
-
-fn sense_from(relation: Relation) -> Sense
-    ensures { result ≡ sense_of relation }
-{
-    match relation {
-        Relation::Exactly => Sense::Exactly,
-        _ => Sense::AtLeast,
-    }
-}
-
-// Whether the relation is one of "at most", which is "at least" with every weight negated.
-fn is_negated(relation: Relation) -> bool
-    ensures { result ≡ negated relation }
-{
-    match relation {
-        Relation::AtMost | Relation::LessThan => true,
-        _ => false,
     }
 }
 

@@ -1,4 +1,5 @@
 use crate::normal::normal_form;
+use pb::constraint::Constraint;
 use pb::relation::Relation;
 use pb::term::Term;
 use pb::variables::Variables;
@@ -15,8 +16,13 @@ fn formed(relation: Relation, bound: i32, terms: &[Term]) -> Result<(Head, [Weig
     let Ok(variables) = Variables::new(2) else {
         return Err(Fail::new("two variables are refused"));
     };
+    let line = Constraint {
+        relation,
+        bound,
+        terms,
+    };
     let mut form = [BLANK; 64];
-    match normal_form(variables, relation, bound, terms, &mut form) {
+    match normal_form(variables, line, &mut form) {
         Ok(found) => Ok((found, form)),
         Err(_) => Err(Fail::new("the line is refused")),
     }

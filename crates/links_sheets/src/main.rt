@@ -1,31 +1,16 @@
-// Reads a schedule file from standard input, and prints its clauses or why it was refused.
+// Reads a schedule file from standard input, and prints the clauses that the encoder that goes by a line's terms makes of it,
+// or why it was refused.
 #![tactic(auto)]
-
-ghost use Rattle.std.specs.Prelude.{◌≤◌, length, IfOk};
 
 use output::{INPUT, print};
 use std::io;
 use std::io::Read;
+use translate_sheets::by_terms;
 
-// Fills the buffer from standard input, as far as that goes, and answers how many bytes there are.
-fn read_input(rt: &HostRuntime, buffer: &mut [u8]) -> io::Result<usize>
-    ensures { IfOk result (λ n. n ≤ length buffer.old) }
-{
-    let mut input = rt.stdin();
-    let mut used = 0;
-    // each turn but the last brings a byte at least
-    for _ in 0..buffer.len() {
-        let n = input.read(&mut buffer[used..])?;
-        if n == 0 {
-            break;
-        }
-        used += n;
-    }
-    Ok(used)
-}
-
+// Kept: beside the other program's, since the input is read here: no library takes memory from the heap.
 fn main(rt: HostRuntime) -> io::Result<()> {
-    let mut input = [0; INPUT];
-    let n = read_input(&rt, &mut input)?;
-    print(&rt, &input[0..n])
+    let mut file = Vec::new(rt.alloc());
+    // more is not looked at
+    let _ = rt.stdin().take(INPUT as u64).read_to_end(&mut file)?;
+    print(&rt, &by_terms(), file.as_slice())
 }

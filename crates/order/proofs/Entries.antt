@@ -1,7 +1,7 @@
 -- The lists of the encoder as the code makes them: an entry's clauses and the last ones by parts, a row column by column,
 -- and the rows one after another.
 use Rattle.std.proofs.Common.{◌≡◌, ℕ, suc, ◌+◌, ◌-◌, ◌<◌, ◌≤◌, List, [], ◌∷◌, ◌++◌, map, length, get_or, drop, ℤ, neg_ℤ, sym, ap, ◌∙◌, append_assoc, add-one, arith}
-use Rattle.std.proofs.lemmas.List.{at_drop_more, at_drop_all}
+use Rattle.std.proofs.lemmas.List.{at_drop_more}
 use Rattle.pb.specs.declared.working.Sense.{Sense}
 use Rattle.pb.specs.declared.working.Sense.TheVariants.{Exactly}
 use Rattle.pb.specs.declared.working.Weighted.{Weighted}
@@ -38,7 +38,7 @@ module _ (first c i j : ℕ) (t : Weighted) where
   pub row_none : c < j → row_from first c i j (c + 1 - j) t ≡ []
   row_none h = let e : c + 1 - j ≡ 0 = omega arith in ap (λ k. row_from first c i j k t) e
 
--- the rows from i + 1 on and what comes after them, at row i + 1 and after the last
+-- the rows from i + 1 on and what comes after them, at row i + 1
 module _ (first c i : ℕ) (ts : List Weighted) (after : List Clause) where
   pub rows_more : (d : Weighted) → i < length ts → rows_from first c i (drop i ts) ++ after ≡ row_from first c i 1 c (get_or ts i d) ++ (rows_from first c (i + 1) (drop (i + 1) ts) ++ after)
   rows_more d h =
@@ -46,6 +46,3 @@ module _ (first c i : ℕ) (ts : List Weighted) (after : List Clause) where
       at_drop_more (λ us. rows_from first c i us ++ after) ts i d h
       ∙ append_assoc (row_from first c i 1 c t) (rows_from first c (suc i) (drop (i + 1) ts)) after
       ∙ ap (λ n. row_from first c i 1 c t ++ (rows_from first c n (drop (i + 1) ts) ++ after)) (sym (add-one i))
-
-  pub rows_none : length ts ≤ i → rows_from first c i (drop i ts) ++ after ≡ after
-  rows_none h = at_drop_all (λ us. rows_from first c i us ++ after) ts i h

@@ -1,3 +1,1 @@
-mod Gathering
-mod Numbering
 mod Entries

@@ -1,5 +1,6 @@
 -- What the code's parts of clauses mean, and the clause that is gathered from some.
-use Rattle.std.specs.Prelude.{ℕ, ◌≤◌, List, [], ◌∷◌, take, ℤ, pos, ◌≤ℤ◌, Some, None, Option}
+use Rattle.std.specs.Prelude.{List, [], ◌∷◌, ℤ, pos, ◌≤ℤ◌, Some, None, Option}
+use Rattle.arrayvec.specs.ArrayVec.{ArrayVec}
 use Rattle.cnf.specs.Clauses.{Clause, of_literals}
 use Rattle.encode.specs.Order as order
 use Rattle.order.specs.declared.part.Part.{Part}
@@ -16,11 +17,7 @@ Plain (Literal l) = pos 0 ≤ℤ l
 Plain Always = Unit {0}
 Plain Never = Unit {0}
 
--- the clause of so many of the literals written, or none
-abbrev pub gathered : Option ℕ → List ℤ → List Clause
-gathered None ls = []
-gathered (Some n) ls = of_literals (take n ls) ∷ []
-
-abbrev pub Within : Option ℕ → Type 0
-Within None = Unit {0}
-Within (Some n) = n ≤ 3
+-- the clause of the literals gathered, or none
+abbrev pub gathered : Option (ArrayVec ℤ) → List Clause
+gathered None = []
+gathered (Some ls) = of_literals ls.items ∷ []

@@ -34,12 +34,11 @@ impl Encoder for Order {
     ghost lawful = { λ _. order_lawful };
 
     fn reach(&self, line: WorkingLine<'_>) -> Option<usize> {
-        let columns = columns(line.sense, line.bound);
         // of a long line the product may not fit
-        match line.terms.len().checked_mul(columns) {
-            Some(takes) if takes <= MOST_AUXILIARIES => Some(takes),
-            _ => None,
-        }
+        line.terms
+            .len()
+            .checked_mul(columns(line))
+            .filter(|takes| *takes <= MOST_AUXILIARIES)
     }
 
     fn encode<S: Sheet>(
@@ -48,12 +47,10 @@ impl Encoder for Order {
         first: u16,
         sheet: &mut S,
     ) -> Result<usize, EncodeFault> {
-        if self.reach(line).is_none() {
-            return Err(EncodeFault::Reach);
-        }
+        self.reach(line).ok_or(EncodeFault::Reach)?;
         let matrix = Matrix {
             line,
-            columns: columns(line.sense, line.bound),
+            columns: columns(line),
             first,
         };
         Ok(give_all(&matrix, sheet)?)

@@ -12,12 +12,13 @@ use fault::sheet::SheetFault;
 use pb::working::{Sense, Weighted, WorkingLine};
 
 // How many columns the matrix of a line has.
-pub(crate) fn columns(sense: Sense, bound: u32) -> usize
-    ensures { result ≡ columns_of sense bound }
+pub(crate) fn columns(line: WorkingLine<'_>) -> usize
+    ensures { result ≡ columns_of line.entry.sense line.entry.bound }
 {
-    match sense {
-        Sense::AtLeast => bound as usize,
-        Sense::Exactly => bound as usize + 1,
+    let bound = line.bound as usize;
+    match line.sense {
+        Sense::AtLeast => bound,
+        Sense::Exactly => bound + 1,
     }
 }
 
@@ -32,6 +33,7 @@ pub(crate) struct Matrix<'a> {
 }
 
 impl Matrix<'_> {
+    // Kept: rows and columns as numbers with a condition, since an entry is asked for by its place and none is held.
     // The entry (i, j): its auxiliary, or its value where i or j is 0.
     fn counted(&self, i: usize, j: usize) -> Part
         requires { (i ≤ length self.now.line.terms.now) × (j ≤ self.now.columns) }

@@ -1,9 +1,10 @@
 // The parts that clauses are made of, and giving the clause of some.
 ghost use Rattle.std.specs.Prelude.{◌≡◌, ◌≤◌, map, length};
 ghost use Rattle.encode.specs.Order.{opposite as opposite_of, clause_of};
-ghost use Rattle.order.specs.Parts.{meant, Plain, Within, gathered};
+ghost use Rattle.order.specs.Parts.{meant, Plain, gathered};
 ghost use Rattle.cnf.specs.Sheets.{Poured};
 
+use arrayvec::ArrayVec;
 use cnf::sheet::Sheet;
 use fault::sheet::SheetFault;
 
@@ -32,25 +33,20 @@ impl Part {
 // No clause of the encoder has more parts.
 const MOST_PARTS: usize = 3;
 
-// Writes the literals of the clause of some parts and says how many there are, or nothing where a part always holds: the
-// clause is then left out.
-fn gather(parts: &[Part], clause: &mut [i32; MOST_PARTS]) -> Option<usize>
+// The literals of the clause of some parts, or nothing where a part always holds: the clause is then left out.
+fn gather(parts: &[Part]) -> Option<ArrayVec<i32, MOST_PARTS>>
     requires { length parts.now ≤ 3 }
-    ensures within { Within result }
-    ensures written { clause_of (map meant parts.now) ≡ gathered result clause.new }
+    ensures { clause_of (map meant parts.now) ≡ gathered result }
 {
-    let mut n = 0;
+    let mut clause = ArrayVec::new();
     for part in parts {
         match *part {
-            Part::Literal(literal) => {
-                clause[n] = literal;
-                n += 1;
-            }
+            Part::Literal(literal) => clause.push(literal),
             Part::Always => return None,
             Part::Never => {}
         }
     }
-    Some(n)
+    Some(clause)
 }
 
 // Gives the clause of some parts, if it is not left out.
@@ -58,9 +54,8 @@ pub(crate) fn give_parts<S: Sheet>(parts: &[Part], sheet: &mut S) -> Result<(), 
     requires { length parts.now ≤ 3 }
     ensures { Poured S.Sheet sheet.old sheet.new result (clause_of (map meant parts.now)) }
 {
-    let mut clause = [0; MOST_PARTS];
-    if let Some(n) = gather(parts, &mut clause) {
-        sheet.give(&clause[..n])?;
+    if let Some(clause) = gather(parts) {
+        sheet.give(&clause)?;
     }
     Ok(())
 }

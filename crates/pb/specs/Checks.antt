@@ -1,6 +1,7 @@
 -- Which lines are refused, and by what: the relation's number, the bound and the number of terms first, then each
 -- term's literal and weight.
 use Rattle.std.specs.Prelude.{◌≡◌, ℕ, suc, ◌<◌, ◌≤◌, Bool, cond, ◌&&◌, List, [], ◌∷◌, length, ℤ, Some, None, Ok, Err, Option, Result, ◌==◌, nat_le, nat_lt, unsigned_abs}
+use Rattle.std.specs.Option.{ok_or}
 use Rattle.fault.specs.declared.line.LineFault.{LineFault}
 use Rattle.fault.specs.declared.line.LineFault.TheVariants.{Relation as BadRelation, Bound as BadBound, Terms as TooMany, Literal as BadLiteral, Weight as BadWeight}
 use Rattle.pb.specs.declared.relation.Relation.{Relation}
@@ -19,6 +20,10 @@ relation_number LessThan = 5
 -- the relation of a number, if it has one
 abbrev pub relation_of : ℕ → Option Relation
 relation_of n = cond (n == 1) (Some AtLeast) (cond (n == 2) (Some AtMost) (cond (n == 3) (Some Exactly) (cond (n == 4) (Some MoreThan) (cond (n == 5) (Some LessThan) None))))
+
+-- the same, or that there is none
+abbrev pub numbered_relation : ℕ → Result Relation LineFault
+numbered_relation n = ok_or (relation_of n) BadRelation
 
 -- a bound, and the number of terms, in range
 abbrev pub sized : {X : Type 0} → X → ℤ → ℕ → Result X LineFault

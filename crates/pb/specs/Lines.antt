@@ -1,5 +1,6 @@
 -- What a line and its working form are.
 use Rattle.std.specs.Prelude.{ℕ, List, [], take, ℤ}
+use Rattle.pb.specs.declared.constraint.Constraint.{Constraint}
 use Rattle.pb.specs.declared.relation.Relation.{Relation}
 use Rattle.pb.specs.declared.term.Term.{Term}
 use Rattle.pb.specs.declared.working.Head.{Head}
@@ -13,6 +14,10 @@ pub record Line : Type 0 where
   pub relation : Relation
   pub bound : ℤ
   pub terms : List Term
+
+-- a line as it is entered over terms that lie elsewhere, with them
+abbrev pub entered_line : Constraint → Line
+entered_line l = record { relation = l.relation; bound = l.bound; terms = l.terms.now }
 
 -- a working line
 pub record Working : Type 0 where

@@ -10,7 +10,7 @@ no_record due at [] l n = absurd (omega arith)
 no_record due at (x ∷ []) l n = absurd (omega arith)
 no_record due at (x ∷ (y ∷ tail)) l n = rw (n x y tail refl)
 
-pub no_end : (rest : List ℕ) → ((x y : ℕ) (tail : List ℕ) → rest ≡ x ∷ y ∷ tail → is_mark End x y ≡ false) → is_at_end rest ≡ false
+pub no_end : (rest : List ℕ) → ((m : Mark) (x y : ℕ) (tail : List ℕ) → rest ≡ x ∷ y ∷ tail → is_mark m x y ≡ false) → is_at_end rest ≡ false
 no_end [] n = refl
 no_end (x ∷ []) n = refl
-no_end (x ∷ (y ∷ tail)) n = n x y tail refl
+no_end (x ∷ (y ∷ tail)) n = n End x y tail refl

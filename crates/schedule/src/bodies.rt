@@ -1,12 +1,13 @@
 // The bodies of records, found by their marks. Here `rest` is what is left of a file, and `offset` is
 // where that begins in the file.
-ghost use Rattle.std.specs.Prelude.{◌≡◌, ℕ, ◌+◌, ◌^◌, ◌<◌, ◌≤◌, false, List, ◌∷◌, length, Some, None, Ok, Err, MatchOption, MatchResult};
-ghost use Rattle.schedule.specs.Records.{size_of_body, first_letter, second_letter, is_mark, record_body, line_body, is_at_end};
+ghost use Rattle.std.specs.Prelude.{◌≡◌, ℕ, ◌+◌, ◌^◌, ◌<◌, ◌≤◌, false, cond, List, ◌∷◌, length, Some, None, Ok, Err, MatchOption, MatchResult};
+ghost use Rattle.schedule.specs.Records.{size_of_body, first_letter, second_letter, is_mark, record_body, line_body, is_at_end, some_body};
 
 use crate::mark::Mark;
 use fault::file::FileFault;
 
 // The mark that these bytes begin with, and what follows it.
+#[tactic(auto, using(crate::proofs::Rests::two_before))]
 fn marked(rest: &[u8]) -> Option<(Mark, &[u8])>
     ensures { MatchOption result ((m : Mark) (x y : ℕ) (tail : List ℕ) → rest.now ≡ x ∷ y ∷ tail → is_mark m x y ≡ false) (λ p. rest.now ≡ first_letter p.0 ∷ second_letter p.0 ∷ p.1.now) }
 {
@@ -20,6 +21,7 @@ fn marked(rest: &[u8]) -> Option<(Mark, &[u8])>
 }
 
 // The body of the record that the rest has to begin with.
+#[tactic(auto, using(crate::proofs::Marks::no_record))]
 pub(crate) fn body_of(due: Mark, rest: &[u8], offset: usize) -> Result<&[u8], FileFault>
     ensures { MatchResult result (λ b. (record_body due offset rest.now ≡ Ok b.now) × (length b.now ≡ size_of_body due) × (2 + size_of_body due ≤ length rest.now)) (λ e. record_body due offset rest.now ≡ Err e) }
 {
@@ -40,26 +42,25 @@ pub(crate) fn body_of(due: Mark, rest: &[u8], offset: usize) -> Result<&[u8], Fi
 }
 
 // Whether the last record begins here.
+#[tactic(auto, using(crate::proofs::Marks::no_end))]
 fn at_end(rest: &[u8]) -> bool
     ensures { result ≡ is_at_end rest.now }
 {
-    match marked(rest) {
-        Some((mark, _)) => mark == Mark::End,
-        None => false,
-    }
+    matches!(marked(rest), Some((Mark::End, _)))
 }
 
-// The body of a line's first record, or nothing where the file ends as it should.
-pub(crate) fn line_or_end(rest: &[u8], offset: usize) -> Result<Option<&[u8]>, FileFault>
+// Whether the file ends here, as it should.
+pub(crate) fn ends(rest: &[u8], offset: usize) -> Result<bool, FileFault>
     requires { offset + length rest.now < 2 ^ 64 }
-    ensures { MatchResult result (λ o. MatchOption o ((line_body offset rest.now ≡ Ok None) × (2 ≤ length rest.now)) (λ b. (line_body offset rest.now ≡ Ok (Some b.now)) × (length b.now ≡ 6) × (8 ≤ length rest.now))) (λ e. line_body offset rest.now ≡ Err e) }
+    ensures { MatchResult result
+        (λ b. cond b ((line_body offset rest.now ≡ Ok None) × (length rest.now ≡ 2)) (line_body offset rest.now ≡ some_body (record_body Mark.Line offset rest.now)))
+        (λ e. line_body offset rest.now ≡ Err e) }
 {
-    if at_end(rest) {
-        if rest.len() > 2 {
-            return Err(FileFault::Trailing(offset + 2));
-        }
-        return Ok(None);
+    if !at_end(rest) {
+        return Ok(false);
     }
-    let body = body_of(Mark::Line, rest, offset)?;
-    Ok(Some(body))
+    if rest.len() > 2 {
+        return Err(FileFault::Trailing(offset + 2));
+    }
+    Ok(true)
 }

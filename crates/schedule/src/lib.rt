@@ -5,6 +5,5 @@ mod bodies;
 mod fields;
 pub mod line;
 pub mod mark;
-mod met;
 pub mod reader;
 pub mod record;

@@ -1,6 +1,8 @@
 // A line as it was read. Its terms lie in an array of its own, so that it borrows nothing.
-ghost use Rattle.std.specs.Prelude.{◌≡◌, ◌≤◌, take};
+ghost use Rattle.std.specs.Prelude.{◌≡◌, ◌≤◌, length, take};
+ghost use Rattle.pb.specs.Lines.{entered_line};
 
+use pb::constraint::Constraint;
 use pb::relation::Relation;
 use pb::term::Term;
 
@@ -10,6 +12,7 @@ pub struct LineRecord {
     pub bound: i32,
     // where its first record stands in the file
     pub offset: usize,
+    // Kept: an array with its count beside it, since a LineRecord can be copied, as no ArrayVec can.
     // only the first `count` of these are the line's
     pub(crate) terms: [Term; 64],
     pub(crate) count: usize,
@@ -17,10 +20,24 @@ pub struct LineRecord {
 }
 
 impl LineRecord {
+    ghost use Rattle.schedule.specs.Held.{line_of};
+
     // The line's terms, in the order of the file.
     pub fn terms(&self) -> &[Term]
-        ensures { result.now ≡ take self.now.count self.now.terms }
+        ensures terms { result.now ≡ take self.now.count self.now.terms }
+        ensures few { length result.now ≤ 64 }
     {
         &self.terms[0..self.count]
+    }
+
+    // The line as it is to be entered, over its own terms.
+    pub fn constraint(&self) -> Constraint<'_>
+        ensures { entered_line result ≡ line_of self.now }
+    {
+        Constraint {
+            relation: self.relation,
+            bound: self.bound,
+            terms: self.terms(),
+        }
     }
 }

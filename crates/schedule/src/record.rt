@@ -1,4 +1,6 @@
 // A record as a part of the file.
+ghost use Rattle.std.specs.Prelude.{◌≡◌, length};
+
 use crate::mark::Mark;
 
 #[derive(Clone, Copy)]
@@ -8,4 +10,14 @@ pub struct Record<'a> {
     pub body: &'a [u8],
     // where the mark stands in the file
     pub offset: usize,
+}
+
+impl<'a> Record<'a> {
+    // The body, of the size that goes with the mark.
+    pub(crate) fn bytes<const SIZE: usize>(&self) -> [u8; SIZE]
+        requires { length self.now.body.now ≡ SIZE }
+        ensures { result ≡ self.now.body.now }
+    {
+        *self.body.first_chunk().unwrap()
+    }
 }

@@ -3,6 +3,7 @@ use ceiling::Ceiling;
 use cnf::sheet::Sheet;
 use fault::sheet::SheetFault;
 use flat::sheet::FlatSheet;
+use text_sheet::finished::finish;
 use text_sheet::sheet::TextSheet;
 
 #[test]
@@ -16,7 +17,7 @@ fn a_text_sheet(rt: HostRuntime) {
     let mut bytes = [0; 22];
     let mut sheet = TextSheet::new(&mut bytes);
     exercise(&rt, &mut sheet);
-    assert_eq!(rt; sheet.finish().bytes(), b"1 -2 0\n4 0\n5 -6 0\n".as_slice());
+    assert_eq!(rt; finish(sheet).bytes(), b"1 -2 0\n4 0\n5 -6 0\n".as_slice());
 }
 
 #[test]

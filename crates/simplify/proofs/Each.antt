@@ -1,18 +1,12 @@
--- Cutting and dividing weights change each term alone, so that they map the terms.
-use Rattle.std.proofs.Common.{◌≡◌, ℕ, ◌/◌, min, List, [], ◌∷◌, map, refl, ap}
+-- A loop that changes each term alone maps the terms.
+use Rattle.std.proofs.Common.{◌≡◌, ℕ, ◌+◌, ◌<◌, List, ◌++◌, map, length, get_or, take, drop, set, pos}
+use Rattle.std.proofs.lemmas.List.{get_or_default}
+use Rattle.std.proofs.lemmas.List.Edits.{map_over_more}
 use Rattle.pb.specs.declared.working.Weighted.{Weighted}
-use Rattle.pb.specs.Tightened.{divided, saturated}
 
-abbrev pub cut : ℕ → Weighted → Weighted
-cut k t = record { weight = min t.weight k; literal = t.literal }
+-- a term that stands for none, where a list has no more
+abbrev pub none : Weighted
+none = record { weight = 0; literal = pos 0 }
 
-pub saturated_map : (k : ℕ) (ts : List Weighted) → map (cut k) ts ≡ saturated k ts
-saturated_map k [] = refl
-saturated_map k (t ∷ ts) = ap (λ us. cut k t ∷ us) (saturated_map k ts)
-
-abbrev pub part : ℕ → Weighted → Weighted
-part d t = record { weight = t.weight / d; literal = t.literal }
-
-pub divided_map : (d : ℕ) (ts : List Weighted) → map (part d) ts ≡ divided d ts
-divided_map d [] = refl
-divided_map d (t ∷ ts) = ap (λ us. part d t ∷ us) (divided_map d ts)
+pub each_more : (f : Weighted → Weighted) (xs ys : List Weighted) (i : ℕ) → i < length xs → i < length ys → ys ≡ map f (take i xs) ++ drop i xs → set ys i (f (get_or ys i none)) ≡ map f (take (i + 1) xs) ++ drop (i + 1) xs
+each_more f xs ys i h here e = map_over_more f xs ys i (get_or ys i none) h e (get_or_default ys i none (get_or ys i none) here)

@@ -1,5 +1,5 @@
--- The greatest common divisor by steps: a step of the loop keeps it, and it is 0 only where both numbers are.
-use Rattle.std.proofs.Common.{◌≡◌, ℕ, zero, suc, ◌%◌, ◌<◌, List, [], ◌∷◌, sym, refl, ◌∙◌, mod-lt, arith}
+-- The greatest common divisor by steps: it is 0 only where both numbers are.
+use Rattle.std.proofs.Common.{◌≡◌, ℕ, zero, suc, ◌%◌, ◌<◌, List, [], ◌∷◌, refl, arith}
 use Rattle.pb.specs.declared.working.Weighted.{Weighted}
 use Rattle.pb.specs.Sums.{weight_sum}
 use Rattle.pb.specs.Tightened.{gcd_steps, gcd, divisor_of, saturated}
@@ -7,25 +7,6 @@ use Rattle.pb.specs.Tightened.{gcd_steps, gcd, divisor_of, saturated}
 -- with some number of steps, enough for the second, the divisor is g
 abbrev pub Comes : ℕ → ℕ → ℕ → Type 0
 Comes x y g = (n : ℕ) × (y < n) × (gcd_steps n x y ≡ g)
-
-pub comes_first : (a b : ℕ) → Comes a b (gcd a b)
-comes_first a b = (suc b, omega arith, refl)
-
-steps_on : (n x y g : ℕ) → y < n → 0 < y → gcd_steps n x y ≡ g → Comes y (x % y) g
-steps_on zero x y g h p e = absurd (omega arith)
-steps_on (suc n) x zero g h p e = absurd (omega arith)
-steps_on (suc n) x (suc y) g h p e = let r : x % suc y < suc y = mod-lt x p in (n, omega arith, e)
-
-pub comes_on : (x y g : ℕ) → 0 < y → Comes x y g → Comes y (x % y) g
-comes_on x y g p h = steps_on h.0 x y g h.1 p h.2
-
-steps_last : (n x : ℕ) → gcd_steps n x 0 ≡ x
-steps_last zero x = refl
-steps_last (suc n) x = refl
-
-pub comes_last : (x y g : ℕ) → y ≡ 0 → Comes x y g → x ≡ g
-comes_last x zero g p h = sym (steps_last h.0 x) ∙ h.2
-comes_last x (suc y) g p h = absurd (omega arith)
 
 steps_zero : (n a b : ℕ) → gcd_steps n a b ≡ 0 → a ≡ 0
 steps_zero zero a b e = e

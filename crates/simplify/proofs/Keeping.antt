@@ -1,10 +1,10 @@
 -- A turn of the loop that moves the terms of other variables to the front.
-use Rattle.std.proofs.Common.{◌≡◌, ℕ, ◌+◌, ◌-◌, ◌<◌, ◌≤◌, cond, eqb, List, [], ◌∷◌, ◌++◌, length, get_or, take, drop, set, ℤ, nat_abs, sym, refl, ap, ◌∙◌, arith}
-use Rattle.std.proofs.lemmas.List.{append_assoc, append-nil, at_drop_all, at_drop_more, drop-drop, drop-set-lt, get_or-drop, take_more_set}
+use Rattle.std.proofs.Common.{◌≡◌, ℕ, ◌+◌, ◌-◌, ◌<◌, ◌≤◌, cond, eqb, List, [], ◌∷◌, ◌++◌, length, get_or, take, drop, set, ℤ, nat_abs, sym, ap, ◌∙◌, arith}
+use Rattle.std.proofs.lemmas.List.{append_assoc, at_drop_more, drop-drop, drop-set-lt, get_or-drop, take_more_set}
 use Rattle.std.proofs.lemmas.Bool.{eq-eqb, ne_eqb}
 use Rattle.pb.specs.declared.working.Weighted.{Weighted}
 use Rattle.pb.specs.Settled.{others}
-use Rattle.simplify.proofs.Firsts.{none}
+use Rattle.simplify.proofs.Each.{none}
 
 -- of the table xs, which is ys now, the terms before place i that are to be kept stand in the first n places, and from
 -- there on nothing moved
@@ -12,9 +12,6 @@ pub record Kept (l : ℤ) (xs ys : List Weighted) (n i : ℕ) : Type 0 where
   pub behind : n ≤ i
   pub front : take n ys ++ others l (drop i xs) ≡ others l xs
   pub rest : drop n ys ≡ drop n xs
-
-pub kept_none : (l : ℤ) (xs : List Weighted) → Kept l xs xs 0 0
-kept_none l xs = record { behind = omega arith; front = refl; rest = refl }
 
 same_at : (xs ys : List Weighted) (n i : ℕ) → n ≤ i → drop n ys ≡ drop n xs → get_or ys i none ≡ get_or xs i none
 same_at xs ys n i h e =
@@ -45,7 +42,3 @@ kept_yes l xs ys n i k h s d =
       front = f ∙ ap (λ us. take n ys ++ us) (sym m) ∙ k.front;
       rest = drop-set-lt (n + 1) ys n (get_or ys i none) (omega arith) ∙ sym (drop-drop 1 n ys) ∙ ap (drop 1) k.rest ∙ drop-drop 1 n xs;
     }
-
-pub kept_all : (l : ℤ) (xs ys : List Weighted) (n i : ℕ) → Kept l xs ys n i → length xs ≤ i → others l xs ≡ take n ys
-kept_all l xs ys n i k h =
-    sym k.front ∙ ap (λ us. take n ys ++ us) (at_drop_all (others l) xs i h) ∙ append-nil (take n ys)

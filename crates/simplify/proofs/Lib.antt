@@ -1,6 +1,5 @@
+mod Chains
 mod Each
-mod Firsts
 mod Gcd
 mod Keeping
-mod Literals
 mod Quotients

@@ -24,7 +24,7 @@ least_positive k d ts vs h r v e =
     ]
 
 -- rounding up by the remainder
-pub over_is : (k d : ℕ) → 0 < d → over k d ≡ k / d + min 1 (k % d)
+over_is : (k d : ℕ) → 0 < d → over k d ≡ k / d + min 1 (k % d)
 over_is k d h =
     let e : k / d * d + k % d ≡ k = div-add-mod' k d in
     let r : k % d < d = mod-lt k h in
@@ -52,11 +52,11 @@ whole w s k n ts us e h l =
     }
 
 -- "at least": the table holds the weights cut and divided
-pub least_leaves : (k d q : ℕ) (ts vs us : List Weighted) → 0 < k → k ≤ weight_sum ts → vs ≡ saturated k ts → d ≡ divisor_of vs → us ≡ divided d vs → q ≡ over k d → length us ≡ length ts → Leaves (tightened_least k ts) (record { sense = AtLeast; bound = q; count = length us }) ts us
+pub least_leaves : (k d q : ℕ) (ts vs us : List Weighted) → 0 < k → k ≤ weight_sum ts → vs ≡ saturated k ts → d ≡ divisor_of vs → us ≡ divided d vs → q ≡ k / d + min 1 (k % d) → length us ≡ length ts → Leaves (tightened_least k ts) (record { sense = AtLeast; bound = q; count = length us }) ts us
 least_leaves k d q ts vs us h r v e u b l =
     let f : d ≡ divisor_of (saturated k ts) = e ∙ ap divisor_of v in
     let a : tightened_least k ts ≡ divided_least k (saturated k ts) = cond-false _ _ _ (ne_eqb k 0 (λ z. omega arith)) ∙ cond-false _ _ _ (le-ltb _ _ r) in
-    let m : over k (divisor_of (saturated k ts)) ≡ q = ap (over k) (sym f) ∙ sym b in
+    let m : over k (divisor_of (saturated k ts)) ≡ q = ap (over k) (sym f) ∙ over_is k d (least_positive k d ts vs h r v e) ∙ sym b in
     let w : divided (divisor_of (saturated k ts)) (saturated k ts) ≡ us = cc in
     whole _ _ _ _ ts us (a ∙ ap (λ n. record { sense = AtLeast; bound = n; terms = divided (divisor_of (saturated k ts)) (saturated k ts) }) m ∙ ap (λ us. record { sense = AtLeast; bound = q; terms = us }) w) refl l
 
@@ -68,8 +68,7 @@ exactly_is k d ts h r e m =
     cond-false _ _ _ n ∙ cond-false _ _ _ (le-ltb _ _ r) ∙ cond-true _ _ _ (eq-eqb _ _ f) ∙ ap (λ x. record { sense = Exactly; bound = k / x; terms = divided x ts }) (sym e)
 
 pub exactly_leaves : (k d : ℕ) (ts us : List Weighted) → (k ≡ 0 → length ts ≡ 0 → ⊥) → k ≤ weight_sum ts → d ≡ divisor_of ts → k % d ≡ 0 → us ≡ divided d ts → length us ≡ length ts → Leaves (tightened_exactly k ts) (record { sense = Exactly; bound = k / d; count = length ts }) ts us
-exactly_leaves k d ts us h r e m u l =
-    whole _ _ _ _ ts us (exactly_is k d ts h r e m ∙ ap (λ vs. record { sense = Exactly; bound = k / d; terms = vs }) (sym u)) (sym l) l
+exactly_leaves k d ts us h r e m u l = whole _ _ _ _ ts us (exactly_is k d ts h r e m ∙ ap (λ us. record { sense = Exactly; bound = k / d; terms = us }) (sym u)) (sym l) l
 
 -- weights of 0 are as they were
 divided_zero : (ts : List Weighted) → divisor_of ts ≡ 0 → divided 0 ts ≡ ts

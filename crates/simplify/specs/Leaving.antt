@@ -15,3 +15,7 @@ pub record Leaves (wanted : Working) (h : Head) (before after : List Weighted) :
   pub line : wanted ≡ line_in h after
   pub within : h.count ≤ length after
   pub rest : drop h.count after ≡ drop h.count before
+
+-- a term with its weight changed
+abbrev pub reweighed : (ℕ → ℕ) → Weighted → Weighted
+reweighed f t = record { weight = f t.weight; literal = t.literal }

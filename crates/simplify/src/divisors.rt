@@ -11,9 +11,7 @@ fn greatest(a: u32, b: u32) -> u32
     let mut x = a;
     let mut y = b;
     while y != 0 {
-        let rest = x % y;
-        x = y;
-        y = rest;
+        (x, y) = (y, x % y);
     }
     x
 }
@@ -22,9 +20,8 @@ fn greatest(a: u32, b: u32) -> u32
 pub(crate) fn common(terms: &[Weighted]) -> u32
     ensures { result ≡ divisor_of terms.now }
 {
-    let mut divisor = 0;
-    for i in (0..terms.len()).rev() {
-        divisor = greatest(terms[i].weight, divisor);
-    }
-    divisor
+    terms
+        .iter()
+        .rev()
+        .fold(0, |divisor, t| greatest(t.weight, divisor))
 }

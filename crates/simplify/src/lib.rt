@@ -4,7 +4,6 @@
 
 mod divisors;
 pub mod forcing;
-mod head;
 pub mod reducing;
 mod sums;
 #[cfg(test)]

@@ -3,11 +3,11 @@ ghost use Rattle.pb.specs.Laws.{ReducedKeeps, ReducedProper};
 ghost use Rattle.pb.specs.Settled.{others, reduced};
 ghost use Rattle.simplify.specs.Leaving.{Keeps, Leaves};
 
-use crate::head::IMPOSSIBLE;
 use crate::sums::total_on;
 use pb::working::{Head, Sense, Weighted};
 
 // Moves the terms of other variables to the front, in their order, and says how many they are.
+// Kept: a lent slice has no `retain`, and no iterator reads a slice that the loop writes, so that both places are counted.
 fn keep_others(literal: i32, terms: &mut [Weighted]) -> usize
     ensures { Keeps (others literal terms.old) result terms.old terms.new }
 {
@@ -25,6 +25,8 @@ fn keep_others(literal: i32, terms: &mut [Weighted]) -> usize
 
 // Drops the literal's variable from a line, and takes the weight on the literal from its bound:
 // below 0, "at least" stops at 0, and "exactly" cannot be met, which leaves the table alone.
+// Kept: sense and bound beside the terms: a struct that lends the table would be made for this call alone, which answers a Head.
+#[tactic(auto, using(pb::proofs::Settling::reduced_keeps))]
 pub fn reduce(literal: i32, sense: Sense, bound: u32, terms: &mut [Weighted]) -> Head
     ensures left { Leaves (reduced literal (record { sense = sense; bound = bound; terms = terms.old })) result terms.old terms.new }
     ensures keeps { ReducedKeeps }
@@ -32,13 +34,11 @@ pub fn reduce(literal: i32, sense: Sense, bound: u32, terms: &mut [Weighted]) ->
 {
     let weight = total_on(literal, terms);
     let left = match sense {
-        Sense::AtLeast => u128::from(bound).saturating_sub(weight),
-        Sense::Exactly => {
-            if u128::from(bound) < weight {
-                return IMPOSSIBLE;
-            }
-            u128::from(bound) - weight
-        }
+        Sense::AtLeast => Some(u128::from(bound).saturating_sub(weight)),
+        Sense::Exactly => u128::from(bound).checked_sub(weight),
+    };
+    let Some(left) = left else {
+        return Head::IMPOSSIBLE;
     };
     let count = keep_others(literal, terms);
     Head {

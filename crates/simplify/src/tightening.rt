@@ -1,40 +1,22 @@
 // Smaller weights and a smaller bound that the same assignments meet.
-ghost use Rattle.std.specs.Prelude.{◌≡◌, ◌<◌};
+ghost use Rattle.std.specs.Prelude.{◌≡◌, ℕ, map};
 ghost use Rattle.pb.specs.Laws.{TightenKeeps, TightenProper, TightenLeaves, TightenOnce};
 ghost use Rattle.pb.specs.Worked.{Worked};
-ghost use Rattle.pb.specs.Tightened.{divided, over, saturated, tightened, tightened_exactly, tightened_least};
-ghost use Rattle.simplify.specs.Leaving.{Leaves};
+ghost use Rattle.pb.specs.Tightened.{tightened, tightened_exactly, tightened_least};
+ghost use Rattle.simplify.specs.Leaving.{Leaves, reweighed};
 
 use crate::divisors::common;
-use crate::head::{EMPTY, IMPOSSIBLE};
 use crate::sums::total;
 use pb::working::{Head, Sense, Weighted};
 
-// A weight above the bound counts no more than the bound.
-fn saturate(bound: u32, terms: &mut [Weighted])
-    ensures { terms.new ≡ saturated bound terms.old }
+// Changes each weight as asked; the literals stay.
+fn reweigh<F: Fn(u32) -> u32>(terms: &mut [Weighted], change: F)
+    requires { F.IsAlwaysCallable change }
+    ensures { (f : ℕ → ℕ) → ((x y : ℕ) → F.post change x y → y ≡ f x) → terms.new ≡ map (reweighed f) terms.old }
 {
     for t in terms.iter_mut() {
-        t.weight = t.weight.min(bound);
+        t.weight = change(t.weight);
     }
-}
-
-// Divides each weight.
-fn divide(divisor: u32, terms: &mut [Weighted])
-    requires { 0 < divisor }
-    ensures { terms.new ≡ divided divisor terms.old }
-{
-    for t in terms.iter_mut() {
-        t.weight = t.weight / divisor;
-    }
-}
-
-// The bound divided, and rounded up.
-fn rounded_up(bound: u32, divisor: u32) -> u32
-    requires { 0 < divisor }
-    ensures { result ≡ over bound divisor }
-{
-    bound.div_ceil(divisor)
 }
 
 // Cuts the weights to the bound, then divides. They reach the bound, so their divisor is not 0.
@@ -42,17 +24,17 @@ fn tighten_least(bound: u32, terms: &mut [Weighted]) -> Head
     ensures { Leaves (tightened_least bound terms.old) result terms.old terms.new }
 {
     if bound == 0 {
-        return EMPTY;
+        return Head::EMPTY;
     }
     if total(terms) < u128::from(bound) {
-        return IMPOSSIBLE;
+        return Head::IMPOSSIBLE;
     }
-    saturate(bound, terms);
+    reweigh(terms, |weight| weight.min(bound));
     let divisor = common(terms);
-    divide(divisor, terms);
+    reweigh(terms, |weight| weight / divisor);
     Head {
         sense: Sense::AtLeast,
-        bound: rounded_up(bound, divisor),
+        bound: bound.div_ceil(divisor),
         count: terms.len(),
     }
 }
@@ -63,10 +45,10 @@ fn tighten_exactly(bound: u32, terms: &mut [Weighted]) -> Head
 {
     let count = terms.len();
     if bound == 0 && count == 0 {
-        return EMPTY;
+        return Head::EMPTY;
     }
     if total(terms) < u128::from(bound) {
-        return IMPOSSIBLE;
+        return Head::IMPOSSIBLE;
     }
     let divisor = common(terms);
     if divisor == 0 {
@@ -78,9 +60,9 @@ fn tighten_exactly(bound: u32, terms: &mut [Weighted]) -> Head
         };
     }
     if bound % divisor != 0 {
-        return IMPOSSIBLE;
+        return Head::IMPOSSIBLE;
     }
-    divide(divisor, terms);
+    reweigh(terms, |weight| weight / divisor);
     Head {
         sense: Sense::Exactly,
         bound: bound / divisor,
@@ -91,6 +73,8 @@ fn tighten_exactly(bound: u32, terms: &mut [Weighted]) -> Head
 // Divides the weights and the bound of a line by the weights' greatest common divisor; of "at
 // least" the weights are cut to the bound before, and the bound is rounded up. Where the line turns
 // out to be met by every assignment or by none, it has no terms left, and the table stays as it was.
+// Kept: sense and bound beside the terms: a struct that lends the table would be made for this call alone, which answers a Head.
+#[tactic(auto, using(pb::proofs::Tightening::tighten_keeps, pb::proofs::Tightening::tighten_leaves, pb::proofs::Tightening::tighten_once))]
 pub fn tighten(sense: Sense, bound: u32, terms: &mut [Weighted]) -> Head
     ensures left { Leaves (tightened (record { sense = sense; bound = bound; terms = terms.old })) result terms.old terms.new }
     ensures keeps { TightenKeeps }

@@ -3,11 +3,10 @@ use Rattle.std.proofs.Common.{◌≡◌, ℕ, zero, suc, ◌+◌, ◌/◌, ◌%�
 use Rattle.std.specs.Fmt.{signed_decimal, digits, digits_onto, digit_glyph}
 use Rattle.std.proofs.lemmas.List.{take-append-drop}
 use Rattle.std.proofs.lemmas.Bool.{ne_eqb, cond_both, lt-ltb}
-use Rattle.text.specs.Rows.{Clause, row, rows, feeds, row_end}
-
-pub feeds_append : (xs ys : List ℕ) → feeds (xs ++ ys) ≡ feeds xs + feeds ys
-feeds_append [] ys = omega arith
-feeds_append (x ∷ xs) ys = omega (arith, feeds_append xs ys)
+use Rattle.cnf.specs.Marks.{IsPart}
+use Rattle.cnf.specs.Text.{is_feed}
+use Rattle.cnf.proofs.Marking.{part_behind}
+use Rattle.text.specs.Rows.{Clause, row, feeds, row_end}
 
 -- a byte that is no line feed
 feeds_skip : (b : ℕ) (bs : List ℕ) → 10 < b → feeds (b ∷ bs) ≡ feeds bs
@@ -32,19 +31,10 @@ feeds_signed : (z : ℤ) → feeds (signed_decimal z) ≡ 0
 feeds_signed (pos n) = feeds_decimal n
 feeds_signed (negsuc n) = feeds_skip 45 (decimal (suc n)) (omega arith) ∙ feeds_decimal (suc n)
 
-pub feeds_row : (c : Clause) → feeds (row c) ≡ 1
-feeds_row [] = refl
-feeds_row (l ∷ ls) =
-    omega (arith, feeds_append (signed_decimal l) (32 ∷ row ls), feeds_signed l, feeds_skip 32 (row ls) (omega arith), feeds_row ls)
-
-pub feeds_rows : (cs : List Clause) → feeds (rows cs) ≡ length cs
-feeds_rows [] = refl
-feeds_rows (c ∷ cs) = omega (arith, feeds_append (row c) (rows cs), feeds_row c, feeds_rows cs)
-
-pub row_end_within : (k : ℕ) (xs : List ℕ) → row_end k xs ≤ length xs
-row_end_within zero xs = omega arith
-row_end_within (suc k) [] = omega arith
-row_end_within (suc k) (x ∷ xs) = omega (arith, row_end_within (cond (eqb x 10) k (suc k)) xs)
+-- a row is a part of the text: whatever its literals, its only line feed ends it
+pub row_part : (c : Clause) → IsPart is_feed (row c)
+row_part [] = record { one = refl; last = refl }
+row_part (l ∷ ls) = part_behind is_feed (signed_decimal l) (32 ∷ row ls) (feeds_signed l) (part_behind is_feed (32 ∷ []) (row ls) refl (row_part ls))
 
 -- the end of a row of a text's front does not depend on the rest
 pub row_end_front : (k : ℕ) (xs ys : List ℕ) → k ≤ feeds xs → row_end k (xs ++ ys) ≡ row_end k xs
@@ -69,16 +59,6 @@ row_end_rest (suc m) k (x ∷ xs) ys e =
     ] e)
     ∙ omega arith
 
-pub row_end_row : (c : Clause) → row_end 1 (row c) ≡ length (row c)
-row_end_row [] = refl
-row_end_row (l ∷ ls) =
-    omega (
-      arith,
-      row_end_rest 1 0 (signed_decimal l) (32 ∷ row ls) (omega (arith, feeds_signed l)),
-      row_end_row ls,
-      length-append (signed_decimal l) (32 ∷ row ls),
-    )
-
 pub feeds_cut : (k : ℕ) (xs : List ℕ) → k ≤ feeds xs → feeds (take (row_end k xs) xs) ≡ k
 feeds_cut zero xs h = refl
 feeds_cut (suc k) [] h = omega arith
@@ -97,9 +77,3 @@ row_end_cut k xs h =
 pub ends_append : (m n : ℕ) (xs ys : List ℕ) → feeds xs ≡ m → row_end m xs ≡ length xs → row_end n ys ≡ length ys → row_end (m + n) (xs ++ ys) ≡ length (xs ++ ys)
 ends_append m zero xs ys f e h = rw add-zero (omega (arith, row_end_front m xs ys (omega arith), length-append xs ys))
 ends_append m (suc k) xs ys f e h = omega (arith, row_end_rest (m + suc k) k xs ys (omega arith), length-append xs ys)
-
-pub row_end_rows : (cs : List Clause) → row_end (length cs) (rows cs) ≡ length (rows cs)
-row_end_rows [] = refl
-row_end_rows (c ∷ cs) =
-    ap (λ n. row_end n (row c ++ rows cs)) (let q : suc (length cs) ≡ 1 + length cs = omega arith in q)
-    ∙ ends_append 1 (length cs) (row c) (rows cs) (feeds_row c) (row_end_row c) (row_end_rows cs)

@@ -1,17 +1,14 @@
 -- Laws of pages for the users of a sheet: clauses fit and are written piece by piece, and a cut takes them back.
-use Rattle.std.proofs.Common.{◌≡◌, ℕ, ◌+◌, ◌≤◌, true, false, List, [], ◌∷◌, ◌++◌, length, take, Ok, Err, Result, sym, refl, ap, ◌∙◌, inl, inr, append_assoc, append-nil, add-zero, add_assoc, arith, length-append, MatchResult}
+use Rattle.std.proofs.Common.{◌≡◌, ℕ, ◌+◌, ◌≤◌, true, List, [], ◌++◌, length, take, Ok, Err, Result, sym, refl, ap, ◌∙◌, append_assoc, append-nil, add-zero, add_assoc, arith, length-append, MatchResult}
 use Rattle.std.proofs.lemmas.List.{take_at, length-take-le}
-use Rattle.std.proofs.lemmas.Bool.{leb-true, le-leb, and_parts, and_from, cases_Bool, both_ways}
+use Rattle.std.proofs.lemmas.Bool.{leb-true, le-leb, and_parts, and_from}
 use Rattle.fault.specs.declared.sheet.SheetFault.{SheetFault}
 use Rattle.text.specs.Rows.{Clause, row, rows, Page, grown, fits, row_end}
 use Rattle.text.specs.Calls.{Whole, WasCut, NotCut, first_rows}
 use Rattle.text.specs.declared.sheet.TextSheet.{TextSheet}
 use Rattle.text.specs.Pages.{page_of}
-use Rattle.text.proofs.Feeds.{feeds_append, feeds_rows, row_end_front, ends_append, row_end_rows}
-
-pub rows_append : (cs ds : List Clause) → rows (cs ++ ds) ≡ rows cs ++ rows ds
-rows_append [] ds = refl
-rows_append (c ∷ cs) ds = ap (λ bs. row c ++ bs) (rows_append cs ds) ∙ sym (append_assoc (row c) (rows cs) (rows ds))
+use Rattle.cnf.proofs.Marking.{joined_append}
+use Rattle.text.proofs.Feeds.{row_end_front}
 
 module _ (p : Page) where
   pub grown_none : grown p [] ≡ p
@@ -19,44 +16,26 @@ module _ (p : Page) where
 
   pub grown_grown : (cs ds : List Clause) → grown (grown p cs) ds ≡ grown p (cs ++ ds)
   grown_grown cs ds =
-      rw (rows_append cs ds, length-append cs ds, append_assoc p.text (rows cs) (rows ds), add_assoc p.count (length cs) (length ds)) refl
+      rw (joined_append row cs ds, length-append cs ds, append_assoc p.text (rows cs) (rows ds), add_assoc p.count (length cs) (length ds)) refl
 
   pub fits_more : (cs ds : List Clause) → fits p (cs ++ ds) ≡ fits (grown p cs) ds
   fits_more cs ds =
-      rw (rows_append cs ds, length-append cs ds, length-append (rows cs) (rows ds), length-append p.text (rows cs), add_assoc (length p.text) (length (rows cs)) (length (rows ds)), add_assoc p.count (length cs) (length ds)) refl
+      rw (joined_append row cs ds, length-append cs ds, length-append (rows cs) (rows ds), length-append p.text (rows cs), add_assoc (length p.text) (length (rows cs)) (length (rows ds)), add_assoc p.count (length cs) (length ds)) refl
 
-  pub fits_parts : (cs : List Clause) → fits p cs ≡ true → (length p.text + length (rows cs) ≤ p.room) × (p.count + length cs ≤ p.most)
+  fits_parts : (cs : List Clause) → fits p cs ≡ true → (length p.text + length (rows cs) ≤ p.room) × (p.count + length cs ≤ p.most)
   fits_parts cs h = let t = and_parts _ _ h in (leb-true _ _ t.0, leb-true _ _ t.1)
 
-  pub fits_from : (cs : List Clause) → length p.text + length (rows cs) ≤ p.room → p.count + length cs ≤ p.most → fits p cs ≡ true
+  fits_from : (cs : List Clause) → length p.text + length (rows cs) ≤ p.room → p.count + length cs ≤ p.most → fits p cs ≡ true
   fits_from cs h k = and_from _ _ (le-leb _ _ h) (le-leb _ _ k)
 
   pub fits_front : (cs ds : List Clause) → fits p (cs ++ ds) ≡ true → fits p cs ≡ true
   fits_front cs ds h =
       let t = fits_parts (cs ++ ds) h in
-      let a = ap length (rows_append cs ds) ∙ length-append (rows cs) (rows ds) in
+      let a = ap length (joined_append row cs ds) ∙ length-append (rows cs) (rows ds) in
       fits_from cs (omega (arith, t, a)) (omega (arith, t, length-append cs ds))
 
-  -- where a piece does not fit, the whole does not
-  pub fits_not : (cs ds : List Clause) → fits p cs ≡ false → fits p (cs ++ ds) ≡ false
-  fits_not cs ds h =
-      elim (cases_Bool (fits p (cs ++ ds))) [ inl e ↦ absurd (both_ways (fits p cs) h (fits_front cs ds e)) | inr e ↦ e ]
-
-  pub fits_none : Whole p → fits p [] ≡ true
-  fits_none w = fits_from [] (omega (arith, w.inside)) (omega (arith, w.few))
-
-  pub whole_grown : (cs : List Clause) → Whole p → fits p cs ≡ true → Whole (grown p cs)
-  whole_grown cs w h =
-      let t = fits_parts cs h in
-      record {
-        inside = omega (arith, t, length-append p.text (rows cs));
-        few = t.1;
-        counted = omega (arith, feeds_append p.text (rows cs), feeds_rows cs, w.counted);
-        ended = ends_append p.count (length cs) p.text (rows cs) w.counted w.ended (row_end_rows cs);
-      }
-
   -- to cut back to the count before gives the text before, and the page
-  pub cut_back : (cs : List Clause) → Whole p → take (row_end p.count (p.text ++ rows cs)) (p.text ++ rows cs) ≡ p.text
+  cut_back : (cs : List Clause) → Whole p → take (row_end p.count (p.text ++ rows cs)) (p.text ++ rows cs) ≡ p.text
   cut_back cs w =
       let n = row_end_front p.count p.text (rows cs) (omega (arith, w.counted)) ∙ w.ended in
       take_at p.text (rows cs) _ (sym n)
@@ -72,5 +51,5 @@ module _ (p : Page) where
 -- the page of a sheet, at any time
 pub sheet_whole : (s : TextSheet) → Whole (page_of s)
 sheet_whole s =
-    let n : length (take s.used s.bytes.all.now) ≡ s.used = length-take-le _ _ s.inside in
+    let n : length (take s.used s.bytes.now) ≡ s.used = length-take-le _ _ s.inside in
     record { inside = omega (arith, s.inside); few = s.few; counted = s.counted; ended = s.ended ∙ sym n }

@@ -1,6 +1,6 @@
 -- One text written after another is the two joined.
-use Rattle.std.proofs.Common.{◌≡◌, ℕ, ◌+◌, ◌<◌, ◌≤◌, List, [], ◌∷◌, ◌++◌, length, take, set, Some, None, Option, sym, refl, ap, ◌∙◌, append_assoc, arith, length-append}
-use Rattle.std.proofs.lemmas.List.{take-take, take_at, take_more_set, length-set, length-take-le}
+use Rattle.std.proofs.Common.{◌≡◌, ℕ, ◌≤◌, List, ◌++◌, length, take, Some, None, Option, sym, ap, ◌∙◌, append_assoc, arith, length-append}
+use Rattle.std.proofs.lemmas.List.{take-take, take_at, length-take-le}
 use Rattle.text.specs.Puts.{Puts, NoRoom, Put}
 
 -- what stood before a text stays
@@ -9,10 +9,6 @@ puts_keeps {at} {to} {xs} {before} {after} p =
     let le : at ≤ to = omega (arith, p.ends) in
     let n : length (take at before) ≡ at = length-take-le at before (omega (arith, p.within)) in
     sym (take-take at to after le) ∙ ap (take at) p.front ∙ take_at (take at before) xs at n
-
-pub puts_byte : (at b : ℕ) (before : List ℕ) → at < length before → Puts at (b ∷ []) (at + 1) before (set before at b)
-puts_byte at b before h =
-    record { ends = refl; within = omega arith; front = take_more_set before at b h; size = length-set before at b }
 
 pub puts_then : {at to end : ℕ} {xs ys text before mid after : List ℕ} → xs ++ ys ≡ text → Puts at xs to before mid → Puts to ys end mid after → Puts at text end before after
 puts_then {at} {to} {end} {xs} {ys} {text} {before} e p q =

@@ -1,18 +1,18 @@
 -- Clauses as DIMACS text: a row for each clause, its literals in decimal, each followed by a space, then 0 and a line
 -- feed. A clause without literals is 0 alone.
-use Rattle.std.specs.Prelude.{ℕ, zero, suc, ◌+◌, Bool, cond, ◌&&◌, List, [], ◌∷◌, ◌++◌, length, ℤ, ◌==◌, nat_le}
-use Rattle.std.specs.Fmt.{signed_decimal}
+use Rattle.std.specs.Prelude.{ℕ, ◌+◌, Bool, ◌&&◌, List, ◌++◌, length, ℤ, nat_le}
+use Rattle.std.specs.List.{flat_map}
+use Rattle.cnf.specs.Marks.{marks, place_after_mark}
+use Rattle.cnf.specs.Text.{row_of, is_feed}
 
 abbrev pub Clause : Type 0
 Clause = List ℤ
 
 abbrev pub row : Clause → List ℕ
-row [] = 48 ∷ 10 ∷ []
-row (l ∷ ls) = signed_decimal l ++ (32 ∷ row ls)
+row c = row_of c
 
 abbrev pub rows : List Clause → List ℕ
-rows [] = []
-rows (c ∷ cs) = row c ++ rows cs
+rows cs = flat_map row cs
 
 -- a page of text: how many bytes and how many clauses it may have, what is written, and how many clauses that is
 pub record Page : Type 0 where
@@ -31,10 +31,7 @@ fits p cs = nat_le (length p.text + length (rows cs)) p.room && nat_le (p.count 
 
 -- how many line feeds a text has, and the place after the k-th: each row ends in its only one
 abbrev pub feeds : List ℕ → ℕ
-feeds [] = 0
-feeds (b ∷ bs) = cond (b == 10) 1 0 + feeds bs
+feeds text = marks is_feed text
 
 abbrev pub row_end : ℕ → List ℕ → ℕ
-row_end zero bs = 0
-row_end (suc k) [] = 0
-row_end (suc k) (b ∷ bs) = suc (row_end (cond (b == 10) k (suc k)) bs)
+row_end k text = place_after_mark is_feed k text

@@ -1,3 +1,2 @@
-mod Sheets
 mod Lengths
 mod Words

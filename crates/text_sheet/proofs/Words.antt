@@ -54,12 +54,12 @@ module _ (row : List ℕ) (ls : List ℤ) (is : row ≡ row_of ls) (formed : lit
   space_short k h = omega (arith, space_within k h, size_of_row, joined_shorter word k ls)
 
   -- the k-th literal's bytes, without the space behind them
-  pub word_at : (k from to : ℕ) → k < length ls → from ≡ place_after_mark is_space k row → to ≡ place_after_mark is_space (k + 1) row → between from (to - 1) row ≡ signed_decimal (get_or ls k (pos 0))
+  pub word_at : (k from to : ℕ) → k < length ls → from ≡ place_after_mark is_space k row → to ≡ place_after_mark is_space (suc k) row → between from (to - 1) row ≡ signed_decimal (get_or ls k (pos 0))
   word_at k from to h a b =
       let l = get_or ls k (pos 0) in
       let text = flat_map word ls in
       let start : from ≡ length (flat_map word (take k ls)) = a ∙ space_within k (omega arith) in
-      let end : to ≡ length (flat_map word (take (k + 1) ls)) = b ∙ space_within (k + 1) (omega arith) in
+      let end : to ≡ length (flat_map word (take (k + 1) ls)) = b ∙ ap (λ n. place_after_mark is_space n row) (let e : suc k ≡ k + 1 = omega arith in e) ∙ space_within (k + 1) (omega arith) in
       let more : flat_map word (take (k + 1) ls) ≡ flat_map word (take k ls) ++ word l = ap (flat_map word) (take_more ls k (pos 0) h) ∙ joined_push word (take k ls) l in
       let size : to ≡ from + (length (signed_decimal l) + 1) = omega (arith, start, end, ap length more, length-append (flat_map word (take k ls)) (word l), length-append (signed_decimal l) (32 ∷ [])) in
       let inside : to ≤ length text = omega (arith, end, joined_shorter word (k + 1) ls) in

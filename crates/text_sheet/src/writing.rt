@@ -1,56 +1,39 @@
-// Bytes, numbers and rows, each written at a place of lent bytes that has room for it. The answer is the place after it.
-ghost use Rattle.std.specs.Prelude.{◌≡◌, ◌+◌, ◌<◌, ◌≤◌, [], ◌∷◌, length, decimal};
+// Numbers and bytes written at a place of lent bytes, and how many bytes the numbers take.
+ghost use Rattle.std.specs.Prelude.{◌≡◌, ◌+◌, ◌^◌, ◌<◌, ◌≤◌, length, sum_by};
 ghost use Rattle.std.specs.Fmt.{signed_decimal};
 ghost use Rattle.cnf.specs.Tables.{overwritten};
 ghost use Rattle.cnf.specs.Text.{row_of};
 
-fn put_byte(out: &mut [u8], at: usize, byte: u8) -> usize
-    requires { at < length out.old }
-    ensures after { out.new ≡ overwritten at (byte ∷ []) out.old }
-    ensures ends { result ≡ at + 1 }
+use cnf::clause::FormedClause;
+use itoa::Buffer;
+
+// The literals' bytes, with the space behind each.
+fn literals_size(literals: &[i32]) -> usize
+    requires { sum_by (λ l. length (signed_decimal l) + 1) literals.now < 2 ^ 64 }
+    ensures { result ≡ sum_by (λ l. length (signed_decimal l) + 1) literals.now }
 {
-    out[at] = byte;
-    at + 1
+    literals
+        .iter()
+        .map(|literal| Buffer::new().format(*literal).len() + 1)
+        .sum()
 }
 
-// The last digit comes after the others, which are those of a tenth.
-fn put_digits(out: &mut [u8], at: usize, n: u32) -> usize
-    requires { at + length (decimal n) ≤ length out.old }
-    ensures after { out.new ≡ overwritten at (decimal n) out.old }
-    ensures ends { result ≡ at + length (decimal n) }
+// The bytes of a clause's row: a row that does not fit is not begun.
+pub(crate) fn row_size(clause: FormedClause<'_>) -> usize
+    ensures { result ≡ length (row_of clause.entry.literals.now) }
 {
-    let last = b'0' + (n % 10) as u8;
-    if n < 10 {
-        return put_byte(out, at, last);
-    }
-    let to = put_digits(out, at, n / 10);
-    put_byte(out, to, last)
+    // the last 0 and the line feed
+    literals_size(clause.literals()) + 2
 }
 
-fn put_literal(out: &mut [u8], at: usize, literal: i32) -> usize
-    requires { at + length (signed_decimal literal) ≤ length out.old }
-    ensures after { out.new ≡ overwritten at (signed_decimal literal) out.old }
-    ensures ends { result ≡ at + length (signed_decimal literal) }
+// Writes from this place on, and answers the place after it.
+// Kept: the place is handed on, since a writer over the bytes would answer a Result that is never an error.
+pub(crate) fn put_bytes(out: &mut [u8], at: usize, text: &[u8]) -> usize
+    requires { at + length text.now ≤ length out.old }
+    ensures after { out.new ≡ overwritten at text.now out.old }
+    ensures ends { result ≡ at + length text.now }
 {
-    // the least i32 has no positive, so the digits are of an unsigned number
-    let n = literal.unsigned_abs();
-    if literal >= 0 {
-        return put_digits(out, at, n);
-    }
-    let to = put_byte(out, at, b'-');
-    put_digits(out, to, n)
-}
-
-// A clause as a row of its own.
-pub(crate) fn put_row(out: &mut [u8], at: usize, clause: &[i32])
-    requires { at + length (row_of clause.now) ≤ length out.old }
-    ensures { out.new ≡ overwritten at (row_of clause.now) out.old }
-{
-    let mut to = at;
-    for literal in clause {
-        let end = put_literal(out, to, *literal);
-        to = put_byte(out, end, b' ');
-    }
-    let last = put_byte(out, to, b'0');
-    let _ = put_byte(out, last, b'\n');
+    let end = at + text.len();
+    out[at..end].copy_from_slice(text);
+    end
 }

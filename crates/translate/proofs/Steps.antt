@@ -1,56 +1,73 @@
 -- A run goes on, ends at a fault, or ends as it should: what comes of the rest of the file, one line at a time.
-use Rattle.std.proofs.Common.{◌≡◌, ℕ, suc, ◌+◌, ◌-◌, ◌<◌, ◌≤◌, true, false, List, ◌++◌, length, drop, is_some, Some, None, Ok, Err, Option, Result, sym, refl, ap, ◌∙◌, subst, inl, inr, arith}
+use Rattle.std.proofs.Common.{◌≡◌, ℕ, suc, ◌+◌, ◌-◌, ◌<◌, ◌≤◌, true, false, List, ◌∷◌, ◌++◌, length, drop, Some, None, Ok, Err, Result, sym, refl, ap, ◌∙◌, subst, inl, inr, arith}
+use Rattle.std.specs.Result.{is_ok}
 use Rattle.std.proofs.lemmas.List.{drop-drop}
-use Rattle.std.proofs.lemmas.Bool.{true≢false, false≢true}
 use Rattle.fault.specs.declared.file.FileFault.{FileFault}
 use Rattle.fault.specs.declared.refusal.Refusal.{Refusal}
 use Rattle.fault.specs.Refusals.{file_refusal}
+use Rattle.pb.specs.declared.working.Head.{Head}
+use Rattle.pb.specs.declared.working.Weighted.{Weighted}
+use Rattle.pb.specs.declared.variables.Variables.{Variables}
 use Rattle.pb.specs.Lines.{Line, Working}
 use Rattle.pb.specs.Checks.{line_check}
 use Rattle.schedule.specs.Reading.{then, read_line, read_lines, line_size, read_variables, read_schedule}
+use Rattle.schedule.specs.declared.reader.Reader.{Reader}
+use Rattle.schedule.specs.Place.{rest_of, ReadOn}
 use Rattle.schedule.proofs.RoundTrip.{reads_back}
 use Rattle.text.specs.Rows.{Page, grown}
 use Rattle.text.proofs.Laws.{grown_grown}
+use Rattle.translate_sheets.specs.Translation.{working_form, or_refusal}
+use Rattle.translate_sheets.proofs.Lines.{lines_end, lines_fault, terms_stop, lines_taken, lines_full}
 use Rattle.translate.specs.declared.run.Run.{Run}
-use Rattle.translate.specs.Translation.{working_form, write_form, write_schedule, or_refusal, translation, OfSchedules}
-use Rattle.translate.specs.Streaming.{written, outcome, coming, GoesOn, EndsWith, Grew}
-use Rattle.translate.specs.Entering.{NotEntered}
-use Rattle.translate.proofs.Lines.{outcome_more, lines_end, lines_fault, terms_stop, lines_taken, lines_full}
+use Rattle.translate.specs.Translation.{write_form, write_schedule, translation, OfSchedules}
+use Rattle.translate.specs.Streaming.{fresh, written, outcome, coming, GoesOn, EndsWith, Grew}
+use Rattle.translate.specs.Entering.{Entered, NotEntered}
+
+-- writing is as good as delayed until the rest is read
+outcome_more : (n k : ℕ) (st : Result Page Refusal) (l : Line) (r : Result (List Line) FileFault) → outcome n k st (then r (λ ls. Ok (l ∷ ls))) ≡ outcome n (suc k) (then st (λ p. write_form k p (working_form n l))) r
+outcome_more n k (Ok p) l (Ok ls) = refl
+outcome_more n k (Err e) l (Ok ls) = refl
+outcome_more n k (Ok p) l (Err e) = refl
+outcome_more n k (Err f) l (Err e) = refl
+
+-- what comes of writing a line of this number where a run has come so far
+abbrev pub wrote : Run → Page → Line → Result Page Refusal
+wrote run p l = then (written run.written p) (λ q. write_form (run.held + 1) q (working_form run.variables.count l))
 
 -- the line is entered, and written where writing goes on
-taken : (n : ℕ) (run : Run) (p : Page) (l : Line) (at : ℕ) (rest : List ℕ) → read_line at rest ≡ Ok (Some l) → line_check n l ≡ None → run.held < 24 → length l.terms ≤ run.free → coming n run p at rest ≡ outcome n (suc (run.held + 1)) (then (written run.refused p) (λ q. write_form (run.held + 1) q (working_form n l))) (read_lines (24 - (run.held + 1)) (run.free - length l.terms) n (run.held + 1) (at + line_size l) (drop (line_size l) rest))
-taken n run p l at rest h fine line_free terms_free =
+taken : (run : Run) (p : Page) (l : Line) (at : ℕ) (rest : List ℕ) → read_line at rest ≡ Ok (Some l) → line_check run.variables.count l ≡ None → run.held < 24 → length l.terms ≤ run.free → coming run p at rest ≡ outcome run.variables.count (suc (run.held + 1)) (wrote run p l) (read_lines (24 - (run.held + 1)) (run.free - length l.terms) run.variables.count (run.held + 1) (at + line_size l) (drop (line_size l) rest))
+taken run p l at rest h fine line_free terms_free =
+    let n = run.variables.count in
     let free : 24 - run.held ≡ suc (24 - (run.held + 1)) = omega arith in
     let next : suc run.held ≡ run.held + 1 = omega arith in
-    ap (λ f. outcome n (suc run.held) (written run.refused p) (read_lines f run.free n run.held at rest)) free
-    ∙ ap (outcome n (suc run.held) (written run.refused p)) (lines_taken (24 - (run.held + 1)) run.free n run.held at rest l h fine terms_free)
-    ∙ outcome_more n (suc run.held) (written run.refused p) l (read_lines (24 - (run.held + 1)) (run.free - length l.terms) n (suc run.held) (at + line_size l) (drop (line_size l) rest))
-    ∙ ap (λ k. outcome n (suc k) (then (written run.refused p) (λ q. write_form k q (working_form n l))) (read_lines (24 - (run.held + 1)) (run.free - length l.terms) n k (at + line_size l) (drop (line_size l) rest))) next
+    let state = written run.written p in
+    ap (λ f. outcome n (suc run.held) state (read_lines f run.free n run.held at rest)) free
+    ∙ ap (outcome n (suc run.held) state) (lines_taken (24 - (run.held + 1)) run.free n run.held at rest l h fine terms_free)
+    ∙ outcome_more n (suc run.held) state l (read_lines (24 - (run.held + 1)) (run.free - length l.terms) n (suc run.held) (at + line_size l) (drop (line_size l) rest))
+    ∙ ap (λ k. outcome n (suc k) (then state (λ q. write_form k q (working_form n l))) (read_lines (24 - (run.held + 1)) (run.free - length l.terms) n k (at + line_size l) (drop (line_size l) rest))) next
 
 -- the run after a line of so many terms
-pub goes_on : (n : ℕ) (run : Run) (p q : Page) (l : Line) (at terms : ℕ) (refused : Option Refusal) → line_check n l ≡ None → run.held < 24 → length l.terms ≤ run.free → terms ≡ length l.terms → then (written run.refused p) (λ r. write_form (run.held + 1) r (working_form n l)) ≡ written refused q → GoesOn n run p (record { held = run.held + 1; free = run.free - terms; refused = refused }) q at l
-goes_on n run p q l at terms refused fine line_free terms_free many wrote rest h =
-    taken n run p l at rest h fine line_free terms_free
-    ∙ ap (λ s. outcome n (suc (run.held + 1)) s (read_lines (24 - (run.held + 1)) (run.free - length l.terms) n (run.held + 1) (at + line_size l) (drop (line_size l) rest))) wrote
-    ∙ ap (λ k. outcome n (suc (run.held + 1)) (written refused q) (read_lines (24 - (run.held + 1)) (run.free - k) n (run.held + 1) (at + line_size l) (drop (line_size l) rest))) (sym many)
+pub goes_on : (run : Run) (p q : Page) (l : Line) (at terms : ℕ) (after : Result (Unit {0}) Refusal) {f : Head} {form : List Weighted} → Entered l run f form → terms ≡ length l.terms → wrote run p l ≡ written after q → GoesOn run p (record { variables = run.variables; held = run.held + 1; free = run.free - terms; written = after }) q at l
+goes_on run p q l at terms after entered many done rest h =
+    let n = run.variables.count in
+    taken run p l at rest h entered.fine entered.line_free entered.terms_free
+    ∙ ap (λ s. outcome n (suc (run.held + 1)) s (read_lines (24 - (run.held + 1)) (run.free - length l.terms) n (run.held + 1) (at + line_size l) (drop (line_size l) rest))) done
+    ∙ ap (λ k. outcome n (suc (run.held + 1)) (written after q) (read_lines (24 - (run.held + 1)) (run.free - k) n (run.held + 1) (at + line_size l) (drop (line_size l) rest))) (sym many)
 
--- what writing then comes to: it goes on, is refused now, or was refused before
-pub goes_on_writing : (number : ℕ) (o : Option Refusal) (p q : Page) (v w : Working) → is_some o ≡ false → v ≡ w → write_form number p w ≡ Ok q → then (written o p) (λ r. write_form number r v) ≡ written o q
-goes_on_writing number None p q v w none same wrote = ap (write_form number p) same ∙ wrote
-goes_on_writing number (Some e) p q v w none same wrote = absurd (true≢false none)
+-- what writing then comes to where it goes on, and where it was refused before
+pub goes_on_writing : (number : ℕ) (o : Result (Unit {0}) Refusal) (p : Page) (v w : Working) (r : Result Page Refusal) → is_ok o ≡ true → v ≡ w → write_form number p w ≡ r → then (written o p) (λ q. write_form number q v) ≡ r
+goes_on_writing number (Ok u) p v w r going form done = ap (write_form number p) form ∙ done
+goes_on_writing number (Err e) p v w r going form done = cc
 
-pub stops_writing : (number : ℕ) (o : Option Refusal) (p q : Page) (v w : Working) (e : Refusal) → is_some o ≡ false → v ≡ w → write_form number p w ≡ Err e → then (written o p) (λ r. write_form number r v) ≡ written (Some e) q
-stops_writing number None p q v w e none same wrote = ap (write_form number p) same ∙ wrote
-stops_writing number (Some x) p q v w e none same wrote = absurd (true≢false none)
-
-pub stopped_before : (number : ℕ) (o : Option Refusal) (p : Page) (v : Working) → is_some o ≡ true → then (written o p) (λ r. write_form number r v) ≡ written o p
-stopped_before number None p v some = absurd (false≢true some)
-stopped_before number (Some e) p v some = refl
+pub stopped_before : (number : ℕ) (o : Result (Unit {0}) Refusal) (p : Page) (v : Working) → is_ok o ≡ false → then (written o p) (λ q. write_form number q v) ≡ written o p
+stopped_before number (Ok u) p v stopped = cc
+stopped_before number (Err e) p v stopped = refl
 
 -- a line that is not entered ends the run
-pub ends_with : (n : ℕ) (run : Run) (p : Page) (l : Line) (at : ℕ) (e : FileFault) → NotEntered n l at run e → EndsWith n run p e at l
-ends_with n run p l at e h rest read =
-    ap (outcome n (suc run.held) (written run.refused p)) (elim h.cause [
+pub ends_with : (run : Run) (p : Page) (l : Line) (at : ℕ) (x : FileFault) → NotEntered l at run x → EndsWith run p x at l
+ends_with run p l at x h rest read =
+    let n = run.variables.count in
+    ap (outcome n (suc run.held) (written run.written p)) (elim h.cause [
       | inl w ↦ terms_stop (24 - run.held) run.free n run.held at rest l w.0 read w.1 ∙ ap Err (sym w.2)
       | inr w ↦ lines_full (24 - run.held) run.free n run.held at rest l read w.0 (elim w.1 [ inl full ↦ inl (omega arith) | inr over ↦ inr over ]) ∙ ap Err (sym w.2)
     ])
@@ -58,53 +75,49 @@ ends_with n run p l at e h rest read =
 -- the file ends, or reading stops
 then-nothing : (st : Result Page Refusal) → then st (λ p. Ok p) ≡ st
 then-nothing (Ok p) = refl
-then-nothing (Err e) = refl
+then-nothing (Err x) = refl
 
-pub comes_to : (n : ℕ) (run : Run) (p : Page) (at : ℕ) (rest : List ℕ) → read_line at rest ≡ Ok None → coming n run p at rest ≡ written run.refused p
-comes_to n run p at rest h =
-    ap (outcome n (suc run.held) (written run.refused p)) (lines_end (24 - run.held) run.free n run.held at rest h) ∙ then-nothing (written run.refused p)
+pub comes_to : (run : Run) (p : Page) (at : ℕ) (rest : List ℕ) → read_line at rest ≡ Ok None → coming run p at rest ≡ written run.written p
+comes_to run p at rest h =
+    ap (outcome run.variables.count (suc run.held) (written run.written p)) (lines_end (24 - run.held) run.free run.variables.count run.held at rest h) ∙ then-nothing (written run.written p)
 
-pub comes_to_fault : (n : ℕ) (run : Run) (p : Page) (at : ℕ) (rest : List ℕ) (e : FileFault) → read_line at rest ≡ Err e → coming n run p at rest ≡ Err (file_refusal e)
-comes_to_fault n run p at rest e h =
-    ap (outcome n (suc run.held) (written run.refused p)) (lines_fault (24 - run.held) run.free n run.held at rest e h)
+pub comes_to_fault : (run : Run) (p : Page) (at : ℕ) (rest : List ℕ) (x : FileFault) → read_line at rest ≡ Err x → coming run p at rest ≡ Err (file_refusal x)
+comes_to_fault run p at rest x h =
+    ap (outcome run.variables.count (suc run.held) (written run.written p)) (lines_fault (24 - run.held) run.free run.variables.count run.held at rest x h)
 
 -- the same, as the reader stands in the whole file
-pub moved_on : (n : ℕ) (run after : Run) (p q : Page) (l : Line) (off at to : ℕ) (input same : List ℕ) → GoesOn n run p after q off l → off ≡ at → to ≡ at + line_size l → same ≡ input → read_line at (drop at input) ≡ Ok (Some l) → coming n after q to (drop to same) ≡ coming n run p at (drop at input)
-moved_on n run after p q l off at to input same go here there whole read =
-    let on = subst (λ k. GoesOn n run p after q k l) here go in
-    ap (λ k. coming n after q k (drop k same)) there ∙ ap (λ bs. coming n after q (at + line_size l) (drop (at + line_size l) bs)) whole
-    ∙ ap (coming n after q (at + line_size l)) (sym (drop-drop (line_size l) at input)) ∙ sym (on (drop at input) read)
+pub moved_on : (run next : Run) (p q : Page) (l : Line) (off : ℕ) (before after : Reader) → GoesOn run p next q off l → off ≡ before.at → ReadOn before after (line_size l) → read_line before.at (rest_of before) ≡ Ok (Some l) → coming next q after.at (rest_of after) ≡ coming run p before.at (rest_of before)
+moved_on run next p q l off before after go here on read =
+    let goes = subst (λ k. GoesOn run p next q k l) here go in
+    let at = before.at + line_size l in
+    ap (λ k. coming next q k (drop k after.input.now)) on.moved ∙ ap (λ bs. coming next q at (drop at bs)) on.same_file
+    ∙ ap (coming next q at) (sym (drop-drop (line_size l) before.at before.input.now)) ∙ sym (goes (rest_of before) read)
 
-pub ended_by : (n : ℕ) (run : Run) (p : Page) (e : FileFault) (l : Line) (off at : ℕ) (rest : List ℕ) → EndsWith n run p e off l → off ≡ at → read_line at rest ≡ Ok (Some l) → coming n run p at rest ≡ Err (file_refusal e)
-ended_by n run p e l off at rest ends here read = subst (λ k. EndsWith n run p e k l) here ends rest read
+pub ended_by : (run : Run) (p : Page) (x : FileFault) (l : Line) (off at : ℕ) (rest : List ℕ) → EndsWith run p x off l → off ≡ at → read_line at rest ≡ Ok (Some l) → coming run p at rest ≡ Err (file_refusal x)
+ended_by run p x l off at rest ends here read = subst (λ k. EndsWith run p x k l) here ends rest read
 
 pub grew_on : (p q r : Page) → Grew p q → Grew q r → Grew p r
 grew_on p q r a b =
     record { more = a.more ++ b.more; page = b.page ∙ ap (λ x. grown x b.more) a.page ∙ grown_grown p a.more b.more }
 
 -- from the first record on
-pub no_variables : (p : Page) (input : List ℕ) (e : FileFault) → read_variables 0 input ≡ Err e → translation p input ≡ Err (file_refusal e)
-no_variables p input e h =
-    ap (λ r. then (or_refusal (then r (λ n. then (read_lines 24 512 n 0 4 (drop 4 input)) (λ ls. Ok (record { variables = n; lines = ls }))))) (write_schedule p)) h
-
 whole : (n : ℕ) (p : Page) (r : Result (List Line) FileFault) → then (or_refusal (then r (λ ls. Ok (record { variables = n; lines = ls })))) (write_schedule p) ≡ then (outcome n 1 (Ok p) r) (λ q. Ok (record { variables = n; page = q }))
 whole n p (Ok ls) = refl
-whole n p (Err e) = refl
+whole n p (Err x) = refl
 
-pub first_lines : (n : ℕ) (p : Page) (input : List ℕ) → read_variables 0 input ≡ Ok n → translation p input ≡ then (outcome n 1 (Ok p) (read_lines 24 512 n 0 4 (drop 4 input))) (λ q. Ok (record { variables = n; page = q }))
-first_lines n p input h =
+pub first_lines : (v : Variables) (p : Page) (input : List ℕ) → read_variables 0 input ≡ Ok v.count → translation p input ≡ then (coming (fresh v) p 4 (drop 4 input)) (λ q. Ok (record { variables = v.count; page = q }))
+first_lines v p input h =
     ap (λ r. then (or_refusal (then r (λ m. then (read_lines 24 512 m 0 4 (drop 4 input)) (λ ls. Ok (record { variables = m; lines = ls }))))) (write_schedule p)) h
-    ∙ whole n p (read_lines 24 512 n 0 4 (drop 4 input))
+    ∙ whole v.count p (read_lines 24 512 v.count 0 4 (drop 4 input))
 
-pub comes_to_all : (n : ℕ) (p : Page) (input first left : List ℕ) (start at : ℕ) → first ≡ input → start ≡ 0 → left ≡ first → at ≡ start + 4 → read_variables start (drop start first) ≡ Ok n → translation p input ≡ then (coming n (record { held = 0; free = 512; refused = None }) p at (drop at left)) (λ q. Ok (record { variables = n; page = q }))
-comes_to_all n p input first left start at f s g a read =
-    let read0 = sym (ap (read_variables 0) f) ∙ sym (ap (λ k. read_variables k (drop k first)) s) ∙ read in
-    let at4 = a ∙ ap (λ k. k + 4) s in
-    first_lines n p input read0
-    ∙ ap (λ k. then (coming n (record { held = 0; free = 512; refused = None }) p k (drop k input)) (λ q. Ok (record { variables = n; page = q }))) (sym at4)
-    ∙ ap (λ bs. then (coming n (record { held = 0; free = 512; refused = None }) p at (drop at bs)) (λ q. Ok (record { variables = n; page = q }))) (sym (g ∙ f))
+pub comes_to_all : (v : Variables) (p : Page) (input : List ℕ) (first after : Reader) → first.input.now ≡ input → first.at ≡ 0 → ReadOn first after 4 → read_variables first.at (rest_of first) ≡ Ok v.count → translation p input ≡ then (coming (fresh v) p after.at (rest_of after)) (λ q. Ok (record { variables = v.count; page = q }))
+comes_to_all v p input first after file start on read =
+    let read0 = sym (ap (read_variables 0) file) ∙ sym (ap (λ k. read_variables k (drop k first.input.now)) start) ∙ read in
+    first_lines v p input read0
+    ∙ ap (λ k. then (coming (fresh v) p k (drop k input)) (λ q. Ok (record { variables = v.count; page = q }))) (sym (on.moved ∙ ap (λ k. k + 4) start))
+    ∙ ap (λ bs. then (coming (fresh v) p after.at (drop after.at bs)) (λ q. Ok (record { variables = v.count; page = q }))) (sym (on.same_file ∙ file))
 
 -- the file of a schedule gives what the schedule gives
 pub of_a_schedule : (p : Page) (input : List ℕ) → OfSchedules input p
-of_a_schedule p input s takes e =
-    ap (λ r. then (or_refusal r) (write_schedule p)) (ap (read_schedule 24 512) e ∙ reads_back 24 512 s takes)
+of_a_schedule p input s takes is =
+    ap (λ r. then (or_refusal r) (write_schedule p)) (ap (read_schedule 24 512) is ∙ reads_back 24 512 s takes)

@@ -3,24 +3,15 @@
 use Rattle.std.specs.Prelude.{◌≡◌, ℕ, suc, cond, List, [], ◌∷◌, Ok, Err, Result}
 use Rattle.fault.specs.declared.book.BookFault.TheVariants.{Reach}
 use Rattle.fault.specs.declared.sheet.SheetFault.TheVariants.{Full}
-use Rattle.fault.specs.declared.file.FileFault.{FileFault}
 use Rattle.fault.specs.declared.refusal.Refusal.{Refusal}
-use Rattle.fault.specs.Refusals.{book_refusal, sheet_refusal, file_refusal}
-use Rattle.pb.specs.Checks.{Sound}
+use Rattle.fault.specs.Refusals.{book_refusal, sheet_refusal}
 use Rattle.pb.specs.Lines.{Line, Working}
-use Rattle.pb.specs.Meaning.{Assignment, meets, met}
-use Rattle.pb.specs.Normal.{normal}
-use Rattle.pb.specs.Proper.{Proper}
-use Rattle.pb.specs.Tightened.{tightened}
 use Rattle.direct.specs.Lists.{direct_list, direct_reach}
 use Rattle.schedule.specs.Reading.{then, Schedule, read_schedule}
 use Rattle.schedule.specs.Writing.{Takes, file_of}
 use Rattle.text.specs.Rows.{Clause, Page, grown, fits}
-use Rattle.translate.specs.declared.header.Header.{Header}
-
--- the working form in which a line of a job of n variables is written
-abbrev pub working_form : ℕ → Line → Working
-working_form n l = tightened (normal n l)
+use Rattle.translate_sheets.specs.declared.header.Header.{Header}
+use Rattle.translate_sheets.specs.Translation.{working_form, or_refusal}
 
 -- the clauses of a working line
 abbrev pub clauses_of : Working → List Clause
@@ -46,10 +37,6 @@ pub record Translated : Type 0 where
 abbrev pub write_schedule : Page → Schedule → Result Translated Refusal
 write_schedule p s = then (lines_written s.variables 1 p s.lines) (λ q. Ok (record { variables = s.variables; page = q }))
 
-abbrev pub or_refusal : {X : Type 0} → Result X FileFault → Result X Refusal
-or_refusal (Ok x) = Ok x
-or_refusal (Err e) = Err (file_refusal e)
-
 -- the book of a run holds 24 lines and 512 terms
 abbrev pub translation : Page → List ℕ → Result Translated Refusal
 translation p input = then (or_refusal (read_schedule 24 512 input)) (write_schedule p)
@@ -67,7 +54,3 @@ pub record Undone (input : List ℕ) (p q : Page) (e : Refusal) : Type 0 where
 -- the file of a schedule gives the clauses of just that schedule
 abbrev pub OfSchedules : List ℕ → Page → Type 0
 OfSchedules input p = (s : Schedule) → Takes 24 512 s → input ≡ file_of s → translation p input ≡ write_schedule p s
-
--- the form that a line is written in is met by just the assignments that meet the line
-abbrev pub FormsKeep : Type 0
-FormsKeep = (n : ℕ) (l : Line) → Sound n l → Proper n (working_form n l) × ((a : Assignment) → met a (working_form n l) ≡ meets a l)

@@ -1,4 +1,5 @@
-mod Lines
+pub mod Lines
 mod Steps
-mod Offsets
-mod Forms
+pub mod Offsets
+pub mod Forms
+mod Whole

@@ -15,33 +15,34 @@ use Rattle.pb.specs.Checks.{checked_head, checked_relation, relation_of, terms_f
 use Rattle.schedule.specs.Records.{line_body, record_body, relation_in, bound_in, terms_in, term_in}
 use Rattle.schedule.specs.Reading.{then, head_or_fault, read_terms, read_line, read_line_of, read_line_with, next_line, judged, line_or_fault, line_fault, read_lines, more_lines, no_more_lines, line_size}
 use Rattle.cnf.specs.Calls.{Rule}
-use Rattle.translate_sheets.specs.Translation.{Progress, working_form, write_form}
+use Rattle.encode.specs.Law.{Encoding}
+use Rattle.translate_sheets.specs.Translation.{Progress, working_form, write_by}
 use Rattle.translate_sheets.specs.Streaming.{outcome}
 
 -- writing is as good as delayed until the rest is read
-pub outcome_more : (fits : Rule) (n k : ℕ) (st : Result Progress Refusal) (l : Line) (r : Result (List Line) FileFault) → outcome fits n k st (then r (λ ls. Ok (l ∷ ls))) ≡ outcome fits n (suc k) (then st (λ p. write_form fits k p (working_form n l))) r
-outcome_more fits n k (Ok p) l (Ok ls) = refl
-outcome_more fits n k (Err e) l (Ok ls) = refl
-outcome_more fits n k (Ok p) l (Err e) = refl
-outcome_more fits n k (Err f) l (Err e) = refl
+pub outcome_more : (e : Encoding) (fits : Rule) (n k : ℕ) (st : Result Progress Refusal) (l : Line) (r : Result (List Line) FileFault) → outcome e fits n k st (then r (λ ls. Ok (l ∷ ls))) ≡ outcome e fits n (suc k) (then st (λ p. write_by e fits k p (working_form n l))) r
+outcome_more e fits n k (Ok p) l (Ok ls) = refl
+outcome_more e fits n k (Err x) l (Ok ls) = refl
+outcome_more e fits n k (Ok p) l (Err x) = refl
+outcome_more e fits n k (Err y) l (Err x) = refl
 
 -- what went on had something to go on with
 pub then_ok : {X Y E : Type 0} (r : Result X E) (f : X → Result Y E) (y : Y) → then r f ≡ Ok y → (x : X) × (r ≡ Ok x) × (f x ≡ Ok y)
 then_ok (Ok x) f y h = (x, refl, h)
-then_ok (Err e) f y h = absurd (let z : ◌≡◌ {A = ℕ} 0 1 = cc in omega arith)
+then_ok (Err e) f y h = cc
 
 -- a line that was read has its bound and its number of terms in range
 head_passed : (at : ℕ) (q : Result Relation LineFault) (r : Relation) → head_or_fault at q ≡ Ok r → q ≡ Ok r
 head_passed at (Ok s) r h = let e : s ≡ r = cc in ap Ok e
-head_passed at (Err e) r h = absurd (let z : ◌≡◌ {A = ℕ} 0 1 = cc in omega arith)
+head_passed at (Err e) r h = cc
 
 sized_passed : {X : Type 0} (few short : Bool) (x y : X) → cond few (cond short (Ok x) (Err TooMany)) (Err BadBound) ≡ Ok y → (few ≡ true) × (short ≡ true)
 sized_passed true true x y h = (refl, refl)
-sized_passed true false x y h = absurd (let z : ◌≡◌ {A = ℕ} 0 1 = cc in omega arith)
-sized_passed false short x y h = absurd (let z : ◌≡◌ {A = ℕ} 0 1 = cc in omega arith)
+sized_passed true false x y h = cc
+sized_passed false short x y h = cc
 
 relation_passed : (o : Option Relation) (b : ℤ) (k : ℕ) (r : Relation) → checked_relation o b k ≡ Ok r → (leb (nat_abs b) 1000000 ≡ true) × (leb k 64 ≡ true)
-relation_passed None b k r h = absurd (let z : ◌≡◌ {A = ℕ} 0 1 = cc in omega arith)
+relation_passed None b k r h = cc
 relation_passed (Some s) b k r h = sized_passed (leb (nat_abs b) 1000000) (leb k 64) s r h
 
 -- so many terms were read as were asked for
@@ -65,7 +66,7 @@ with_passed at rest body l h =
     )
 
 of_passed : (at : ℕ) (rest : List ℕ) (o : Option (List ℕ)) (l : Line) → read_line_of at rest o ≡ Ok (Some l) → (leb (nat_abs l.bound) 1000000 ≡ true) × (leb (length l.terms) 64 ≡ true)
-of_passed at rest None l h = absurd (let z : ◌≡◌ {A = ℕ} 0 1 = cc in omega arith)
+of_passed at rest None l h = cc
 of_passed at rest (Some body) l h = with_passed at rest body l h
 
 pub read_check : (n at : ℕ) (rest : List ℕ) (l : Line) → read_line at rest ≡ Ok (Some l) → line_check n l ≡ terms_fault n 1 l.terms

@@ -14,7 +14,7 @@ first_or P true false x y e later p q r h = let same : y ≡ e = cc in rw (← s
 first_or P false b x y e later p q r h = let same : x ≡ e = cc in rw (← same) p
 
 terms_within : (at n i : ℕ) (ts : List Term) (e : LineFault) → terms_fault n i ts ≡ Some e → offset_of_fault at e ≤ at + 8 * (i + length ts)
-terms_within at n i [] e h = absurd (let z : ◌≡◌ {A = ℕ} 0 1 = cc in omega arith)
+terms_within at n i [] e h = cc
 terms_within at n i (t ∷ ts) e h =
     first_or (λ x. offset_of_fault at x ≤ at + 8 * (i + suc (length ts))) (literal_named n t.literal) (weight_small t.weight) (BadLiteral i) (BadWeight i) e (terms_fault n (suc i) ts) (omega arith) (omega arith)
     (λ k. omega (arith, terms_within at n (suc i) ts e k)) h

@@ -13,14 +13,14 @@ use Rattle.schedule.specs.Reading.{offset_of_fault}
 use Rattle.translate_sheets.specs.declared.run.Run.{Run}
 
 -- nothing is wrong with the line, the book has room for it, and this is its normal form
-pub record Entered (n : ℕ) (l : Line) (run : Run) (f : Head) (form : List Weighted) : Type 0 where
-  pub fine : line_check n l ≡ None
+pub record Entered (l : Line) (run : Run) (f : Head) (form : List Weighted) : Type 0 where
+  pub fine : line_check run.variables.count l ≡ None
   pub line_free : run.held < 24
   pub terms_free : length l.terms ≤ run.free
-  pub normal_form : normal n l ≡ line_in f form
+  pub normal_form : normal run.variables.count l ≡ line_in f form
   pub size : length form ≡ 64
   pub few : f.count ≤ 64
 
 -- something is wrong with the line, which stood here in the file; or else the book is full
-pub record NotEntered (n : ℕ) (l : Line) (at : ℕ) (run : Run) (e : FileFault) : Type 0 where
-  pub cause : ((x : LineFault) × (line_check n l ≡ Some x) × (e ≡ LineAt (offset_of_fault at x) x)) ⊎ ((line_check n l ≡ None) × ((24 ≤ run.held) ⊎ (run.free < length l.terms)) × (e ≡ BookAt at (Full run.held)))
+pub record NotEntered (l : Line) (at : ℕ) (run : Run) (e : FileFault) : Type 0 where
+  pub cause : ((x : LineFault) × (line_check run.variables.count l ≡ Some x) × (e ≡ LineAt (offset_of_fault at x) x)) ⊎ ((line_check run.variables.count l ≡ None) × ((24 ≤ run.held) ⊎ (run.free < length l.terms)) × (e ≡ BookAt at (Full run.held)))

@@ -50,38 +50,36 @@ write_by e fits number p w =
     (Err (book_refusal (Auxiliary number) 0)))
     (Err (book_refusal (Reach number) 0))
 
-abbrev pub write_form : Rule → ℕ → Progress → Working → Result Progress Refusal
-write_form fits number p w = write_by encoding fits number p w
+-- lines of a job of n variables, of which the first has this number, written one after the other by an encoder of this
+-- meaning
+abbrev pub lines_written : Encoding → Rule → ℕ → ℕ → Progress → List Line → Result Progress Refusal
+lines_written e fits n number p [] = Ok p
+lines_written e fits n number p (l ∷ ls) = then (write_by e fits number p (working_form n l)) (λ q. lines_written e fits n (suc number) q ls)
 
--- lines of a job of n variables, of which the first has this number, written one after the other
-abbrev pub lines_written : Rule → ℕ → ℕ → Progress → List Line → Result Progress Refusal
-lines_written fits n number p [] = Ok p
-lines_written fits n number p (l ∷ ls) = then (write_form fits number p (working_form n l)) (λ q. lines_written fits n (suc number) q ls)
-
-abbrev pub write_schedule : Rule → List Clause → Schedule → Result Progress Refusal
-write_schedule fits cs s = lines_written fits s.variables 1 (record { held = cs; numbers = s.variables }) s.lines
+abbrev pub write_schedule : Encoding → Rule → List Clause → Schedule → Result Progress Refusal
+write_schedule e fits cs s = lines_written e fits s.variables 1 (record { held = cs; numbers = s.variables }) s.lines
 
 abbrev pub or_refusal : {X : Type 0} → Result X FileFault → Result X Refusal
 or_refusal (Ok x) = Ok x
 or_refusal (Err e) = Err (file_refusal e)
 
 -- the book of a run holds 24 lines and 512 terms
-abbrev pub translation : Rule → List Clause → List ℕ → Result Progress Refusal
-translation fits cs input = then (or_refusal (read_schedule 24 512 input)) (write_schedule fits cs)
+abbrev pub translation : Encoding → Rule → List Clause → List ℕ → Result Progress Refusal
+translation e fits cs input = then (or_refusal (read_schedule 24 512 input)) (write_schedule e fits cs)
 
 -- the file was translated: the sheet that held cs holds ds, and the header's two numbers are true
-pub record Done (fits : Rule) (input : List ℕ) (cs ds : List Clause) (h : Header) : Type 0 where
-  pub written : translation fits cs input ≡ Ok (record { held = ds; numbers = h.variables })
+pub record Done (e : Encoding) (fits : Rule) (input : List ℕ) (cs ds : List Clause) (h : Header) : Type 0 where
+  pub written : translation e fits cs input ≡ Ok (record { held = ds; numbers = h.variables })
   pub clauses : h.clauses ≡ length ds
 
 -- the file was refused, and the sheet holds what it held
-pub record Undone (fits : Rule) (input : List ℕ) (cs ds : List Clause) (e : Refusal) : Type 0 where
-  pub refusal : translation fits cs input ≡ Err e
+pub record Undone (e : Encoding) (fits : Rule) (input : List ℕ) (cs ds : List Clause) (r : Refusal) : Type 0 where
+  pub refusal : translation e fits cs input ≡ Err r
   pub same : ds ≡ cs
 
 -- the file of a schedule gives the clauses of just that schedule
-abbrev pub OfSchedules : Rule → List ℕ → List Clause → Type 0
-OfSchedules fits input cs = (s : Schedule) → Takes 24 512 s → input ≡ file_of s → translation fits cs input ≡ write_schedule fits cs s
+abbrev pub OfSchedules : Encoding → Rule → List ℕ → List Clause → Type 0
+OfSchedules e fits input cs = (s : Schedule) → Takes 24 512 s → input ≡ file_of s → translation e fits cs input ≡ write_schedule e fits cs s
 
 -- the form that a line is written in is met by just the assignments that meet the line
 abbrev pub FormsKeep : Type 0

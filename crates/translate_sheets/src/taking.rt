@@ -1,30 +1,29 @@
-// A line that was read is entered into the book and written.
-ghost use Rattle.std.specs.Prelude.{◌≡◌, ℕ, ◌+◌, ◌*◌, ◌^◌, ◌<◌, ◌≤◌, ◌⊎◌, length, Ok, Err, MatchResult};
+// A line that was read is entered into the book of a run and written.
+ghost use Rattle.std.specs.Prelude.{◌≡◌, ◌+◌, ◌^◌, ◌<◌, ◌≤◌, MatchResult};
 ghost use Rattle.pb.specs.Lines.{line_in};
 ghost use Rattle.pb.specs.Tightened.{tightened};
 ghost use Rattle.schedule.specs.Held.{line_of};
 ghost use Rattle.schedule.specs.Reading.{offset_of_fault, line_size};
-ghost use Rattle.cnf.specs.Sheets.{Kept};
-ghost use Rattle.translate_sheets.specs.Translation.{encoding};
-ghost use Rattle.translate_sheets.specs.Streaming.{Grew, GoesOn, EndsWith};
+ghost use Rattle.translate_sheets.specs.Streaming.{fresh, Added, GoesOn, EndsWith};
 ghost use Rattle.translate_sheets.specs.Entering.{Entered, NotEntered};
 
 use crate::run::Run;
 use crate::writing::write;
-use choose::UpTo;
 use cnf::sheet::Sheet;
-use direct_encoder::encoder::Direct;
+use encode::encoder::Encoder;
 use fault::book::BookFault;
 use fault::file::{At, FileFault};
 use fault::line::LineFault;
 use lines::normal::normal_form;
-use order::encoder::Order;
 use pb::variables::Variables;
 use pb::working::{Head, Weighted, WorkingLine};
 use schedule::line::LineRecord;
 use simplify::tightening::tighten;
 
+// The book of a run holds so many lines, and so many terms of theirs in all.
 const LINES: usize = 24;
+
+const TERMS: usize = 512;
 
 // A term's fault stands at the record of that term, any other at the line's first record.
 fn fault_offset(at: usize, fault: LineFault) -> usize
@@ -37,90 +36,90 @@ fn fault_offset(at: usize, fault: LineFault) -> usize
     }
 }
 
-// The line's normal form, where the line is sound and the book has room for it.
-fn enter(
-    variables: Variables,
-    line: &LineRecord,
-    run: Run,
-    form: &mut [Weighted; 64],
-) -> Result<Head, FileFault>
-    requires { line.now.offset + line_size (line_of line.now) < 2 ^ 64 }
-    ensures { MatchResult result (λ f. Entered variables.count (line_of line.now) run f form.new) (λ e. NotEntered variables.count (line_of line.now) line.now.offset run e) }
-{
-    let normal = match normal_form(variables, line.relation, line.bound, line.terms(), form) {
-        Ok(normal) => normal,
-        Err(fault) => {
-            let offset = fault_offset(line.offset, fault);
-            return Err(FileFault::from(At { offset, fault }));
-        }
-    };
-    if run.held >= LINES || line.terms().len() > run.free {
-        let fault = BookFault::Full(run.held);
-        return Err(FileFault::from(At {
-            offset: line.offset,
-            fault,
-        }));
-    }
-    Ok(normal)
-}
-
 // Tightens the line whose terms stand in the table.
 fn tighten_in(line: Head, form: &mut [Weighted; 64]) -> Head
     requires { line.count ≤ 64 }
-    ensures { (tightened (line_in line form.old) ≡ line_in result form.new) × (result.count ≤ 64) }
+    ensures line { tightened (line_in line form.old) ≡ line_in result form.new }
+    ensures few { result.count ≤ 64 }
 {
     let count = line.count;
     tighten(line.sense, line.bound, &mut form[0..count])
 }
 
-// The direct encoder for lines of up to 12 terms, the order encoder for the others.
-fn by_terms() -> UpTo<Direct, Order>
-    ensures { result.most ≡ 12 }
-{
-    UpTo {
-        most: 12,
-        few: Direct::new(),
-        many: Order::new(),
-    }
-}
-
-// Enters the line and, unless writing was refused before, writes it.
-pub(crate) fn take_line<S: Sheet>(
-    variables: Variables,
-    line: &LineRecord,
-    run: &mut Run,
-    sheet: &mut S,
-) -> Result<(), FileFault>
-    requires { line.now.offset + line_size (line_of line.now) < 2 ^ 64 }
-    ensures stays { Kept S.Sheet sheet.old sheet.new }
-    ensures grew { Grew (S.Sheet.held sheet.old) (S.Sheet.held sheet.new) }
-    ensures cases { MatchResult result
-        (λ _. GoesOn (S.Sheet.fits sheet.old) variables.count run.old (S.Sheet.held sheet.old) run.new (S.Sheet.held sheet.new) line.now.offset (line_of line.now))
-        (λ e. EndsWith (S.Sheet.fits sheet.old) variables.count run.old (S.Sheet.held sheet.old) e line.now.offset (line_of line.now)) }
-{
-    let mut form = [Weighted {
-        weight: 0,
-        literal: 0,
-    }; 64];
-    let normal = enter(variables, line, *run, &mut form)?;
-    run.held += 1;
-    run.free -= line.terms().len();
-    if run.refused.is_none() {
-        let Head {
-            sense,
-            bound,
-            count,
-        } = tighten_in(normal, &mut form);
-        let terms = &form[0..count];
-        let working = WorkingLine {
-            sense,
-            bound,
-            terms,
-        };
-        match write(&by_terms(), run.held, run.numbers, working, sheet) {
-            Ok(numbers) => run.numbers = numbers,
-            Err(refusal) => run.refused = Some(refusal),
+impl Run {
+    // A run before its first line.
+    pub(crate) fn new(variables: Variables) -> Run
+        ensures { result ≡ fresh variables }
+    {
+        Run {
+            variables,
+            held: 0,
+            free: TERMS,
+            written: Ok(variables.count()),
         }
     }
-    Ok(())
+
+    // The line's normal form, where the line is sound and the book has room for it.
+    // Kept: a condition and no ghost field of LineRecord, whose offset is public, so that whoever sets it would owe the fact.
+    fn enter(&self, line: &LineRecord, form: &mut [Weighted; 64]) -> Result<Head, FileFault>
+        requires { line.now.offset + line_size (line_of line.now) < 2 ^ 64 }
+        ensures { MatchResult result (λ f. Entered (line_of line.now) self.now f form.new) (λ x. NotEntered (line_of line.now) line.now.offset self.now x) }
+    {
+        let at = line.offset;
+        let normal = normal_form(self.variables, line.constraint(), form).map_err(
+            |fault| -> At<LineFault>
+                requires { offset_of_fault at fault < 2 ^ 64 }
+            {
+                At {
+                    offset: fault_offset(at, fault),
+                    fault,
+                }
+            },
+        )?;
+        if self.held >= LINES || line.terms().len() > self.free {
+            return Err(FileFault::from(At {
+                offset: line.offset,
+                fault: BookFault::Full(self.held),
+            }));
+        }
+        Ok(normal)
+    }
+
+    // Enters the line and, unless writing was refused before, writes it.
+    pub(crate) fn take_line<E: Encoder, S: Sheet>(
+        &mut self,
+        encoder: &E,
+        line: &LineRecord,
+        sheet: &mut S,
+    ) -> Result<(), FileFault>
+        requires { line.now.offset + line_size (line_of line.now) < 2 ^ 64 }
+        ensures added { Added S.Sheet sheet.old sheet.new }
+        ensures cases { MatchResult result
+            (λ _. GoesOn (E.Encoder.meaning encoder.now) (S.Sheet.fits sheet.old) self.old (S.Sheet.held sheet.old) self.new (S.Sheet.held sheet.new) line.now.offset (line_of line.now))
+            (λ x. EndsWith (E.Encoder.meaning encoder.now) (S.Sheet.fits sheet.old) self.old (S.Sheet.held sheet.old) x line.now.offset (line_of line.now)) }
+    {
+        // Kept: a table and a head, since the normal form is written to memory that is lent, and is tightened there in place.
+        let mut form = [Weighted {
+            weight: 0,
+            literal: 0,
+        }; 64];
+        let normal = self.enter(line, &mut form)?;
+        self.held += 1;
+        self.free -= line.terms().len();
+        if let Ok(taken) = self.written {
+            let Head {
+                sense,
+                bound,
+                count,
+            } = tighten_in(normal, &mut form);
+            let terms = &form[0..count];
+            let working = WorkingLine {
+                sense,
+                bound,
+                terms,
+            };
+            self.written = write(encoder, self.held, taken, working, sheet);
+        }
+        Ok(())
+    }
 }

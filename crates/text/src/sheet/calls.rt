@@ -3,8 +3,9 @@ ghost use Rattle.std.specs.Prelude.{◌≡◌, [], length, MatchResult};
 ghost use Rattle.text.specs.Calls.{Gave, NotGiven, WasCut, NotCut};
 ghost use Rattle.text.specs.Pages.{page_of};
 
-use crate::bytes::Bytes;
 use crate::sheet::TextSheet;
+use crate::writing::put_row;
+use cnf::marks::{Equal, after_mark};
 use fault::sheet::SheetFault;
 
 impl<'a> TextSheet<'a> {
@@ -13,7 +14,7 @@ impl<'a> TextSheet<'a> {
         ensures { page_of result ≡ record { room = length bytes.old; most = most; text = []; count = 0 } }
     {
         TextSheet {
-            bytes: Bytes { all: bytes },
+            bytes,
             used: 0,
             count: 0,
             most,
@@ -29,26 +30,21 @@ impl<'a> TextSheet<'a> {
             return Err(SheetFault::Full(count));
         }
         let at = self.used;
-        match self.bytes.put_row(at, clause) {
-            Some(end) => {
-                self.used = end;
-                self.count = count + 1;
-                Ok(count + 1)
-            }
-            None => Err(SheetFault::Full(count)),
-        }
+        let end = put_row(self.bytes, at, clause).ok_or(SheetFault::Full(count))?;
+        self.used = end;
+        self.count = count + 1;
+        Ok(count + 1)
     }
 
     // Keeps the first clauses, so many.
+    #[tactic(auto, using(crate::proofs::Sheets::front_cut))]
     pub fn cut(&mut self, keep: usize) -> Result<(), SheetFault>
         ensures { MatchResult result (λ _. WasCut (page_of self.old) (page_of self.new) keep) (λ e. NotCut (page_of self.old) (page_of self.new) keep e) }
     {
         if keep > self.count {
             return Err(SheetFault::Cut(self.count));
         }
-        let used = self.used;
-        let end = self.bytes.row_end(used, keep);
-        self.used = end;
+        self.used = after_mark(self.bytes(), &Equal(b'\n'), keep);
         self.count = keep;
         Ok(())
     }

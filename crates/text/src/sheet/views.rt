@@ -16,6 +16,6 @@ impl<'a> TextSheet<'a> {
     pub fn bytes(&self) -> &[u8]
         ensures { result.now ≡ (page_of self.now).text }
     {
-        self.bytes.front(self.used)
+        &self.bytes[..self.used]
     }
 }

@@ -4,21 +4,17 @@ use Rattle.std.proofs.lemmas.Result.{err_from_is_err_and}
 use Rattle.translate_sheets.proofs.Steps.{comes_to_all}
 use Rattle.translate_sheets.proofs.write_file.Goals as goal
 
-pub returns-in_err-numbers : goal.returns-in_err-numbers
-returns-in_err-numbers g c =
+pub returns-in_err-numbers-clause-cases : goal.returns-in_err-numbers-clause-cases
+returns-in_err-numbers-clause-cases g c =
     let r = err_from_is_err_and c.from_residual-in_err-numbers.result c.from_residual-in_err-numbers.ensures.1 in
-    let n = c.in_ok-variables.variables.count in
     let s = c.args.sheet.now in
     let read = c.in_ok-variables.ensures.cases in
-    let p = c.in_err-numbers.ensures in
-    let all = comes_to_all (g.S.Sheet.fits s) n (g.S.Sheet.held s) c.args.input.now c.new-reader.result.input.now c.variables.new.self.input.now c.new-reader.result.at c.variables.new.self.at c.new-reader.ensures.input c.new-reader.ensures.start c.in_ok-variables.ensures.input read.1 read.0 in
-    record { stays = p.stays; grew = p.grew; cases = rw (r.1, r.2) (all ∙ p.cases) }
+    let all = comes_to_all (g.E.Encoder.meaning c.args.encoder.now) (g.S.Sheet.fits s) c.in_ok-variables.variables (g.S.Sheet.held s) c.args.input.now c.new-reader.result c.variables.new.self c.new-reader.ensures.input c.new-reader.ensures.start read.1 read.0 in
+    rw (r.1, r.2) (all ∙ c.in_err-numbers.ensures.comes)
 
-pub returns : goal.returns
-returns g c =
-    let n = c.in_ok-variables.variables.count in
+pub returns-clause-cases : goal.returns-clause-cases
+returns-clause-cases g c =
     let s = c.args.sheet.now in
     let read = c.in_ok-variables.ensures.cases in
-    let p = c.in_ok-numbers.ensures in
-    let all = comes_to_all (g.S.Sheet.fits s) n (g.S.Sheet.held s) c.args.input.now c.new-reader.result.input.now c.variables.new.self.input.now c.new-reader.result.at c.variables.new.self.at c.new-reader.ensures.input c.new-reader.ensures.start c.in_ok-variables.ensures.input read.1 read.0 in
-    record { stays = p.stays; grew = p.grew; cases = record { written = all ∙ p.cases; clauses = c.count.ensures } }
+    let all = comes_to_all (g.E.Encoder.meaning c.args.encoder.now) (g.S.Sheet.fits s) c.in_ok-variables.variables (g.S.Sheet.held s) c.args.input.now c.new-reader.result c.variables.new.self c.new-reader.ensures.input c.new-reader.ensures.start read.1 read.0 in
+    record { written = all ∙ c.in_ok-numbers.ensures.comes; clauses = c.count.ensures }

@@ -1,38 +1,16 @@
--- What is passed is well-formed; the first literal that is not decides.
-use Rattle.std.proofs.Common.{◌≡◌, ◌≤◌, false, length, get_or, pos, nat_abs, sym, ◌∙◌, inl, inr, arith, w32, SFits, rules}
-use Rattle.std.proofs.lemmas.Int.{to_z-of_z}
-use Rattle.std.proofs.lemmas.Bool.{and_right, and_from, le-leb}
-use Rattle.cnf.specs.Clauses.{literal_formed}
-use Rattle.cnf.proofs.Forming.{zero_unformed, large_unformed, between_formed, formed_stops, formed_goes_on, formed_ends}
+-- All literals of a clause that is not too long are tested.
+use Rattle.std.proofs.Common.{◌≡◌, ◌&&◌, length, sym, ap, ◌∙◌, rules, tests}
+use Rattle.std.proofs.lemmas.Bool.{le-leb}
+use Rattle.std.proofs.lemmas.Iterator.{YieldsList-from_slice}
+use Rattle.std.proofs.lemmas.Iterator.Search.{all_from_yields_List}
+use Rattle.std.specs.List.{list_all}
+use Rattle.cnf.specs.Clauses.{literal_formed, literals_formed}
+use Rattle.cnf.proofs.Forming.{formed_all}
 use Rattle.cnf.proofs.clause.is_well_formed.Goals as goal
 
-pub returns-then-variable-eq0 : goal.returns-then-variable-eq0
-returns-then-variable-eq0 c =
+pub returns-then-clause-le-MOST_LITERALS : goal.returns-then-clause-le-MOST_LITERALS
+returns-then-clause-le-MOST_LITERALS c =
     let ls = c.args.clause.now in
-    let i = c.loop-literal.literal-index in
-    let l = get_or ls i (pos 0) in
-    let f : SFits w32 l = search rules in
-    let v = simp to_z-of_z at c.unsigned_abs-variable.ensures.value in
-    let bad : literal_formed l ≡ false =
-    elim c.then-variable-eq0.either [
-      | inl z ↦ zero_unformed l (omega (arith, v, z))
-      | inr z ↦ large_unformed l (omega (arith, v, z.1))
-    ] in
-    sym (and_right _ _ (c.loop-literal.invariant ∙ formed_stops ls i c.loop-literal-test.true bad))
-
-pub loop-literal-preserved : goal.loop-literal-preserved
-loop-literal-preserved c =
-    let ls = c.args.clause.now in
-    let i = c.loop-literal.literal-index in
-    let l = get_or ls i (pos 0) in
-    let f : SFits w32 l = search rules in
-    let v = simp to_z-of_z at c.unsigned_abs-variable.ensures.value in
-    let some : nat_abs l ≡ 0 → ⊥ = λ z. c.if-variable-eq0.false (v ∙ z) in
-    let small : nat_abs l ≤ 60000 = omega (arith, v) in
-    c.loop-literal.invariant ∙ formed_goes_on ls i c.loop-literal-test.true (between_formed l some small)
-
-pub returns : goal.returns
-returns c =
-    let ls = c.args.clause.now in
-    let i = c.loop-literal.literal-index in
-    sym (and_from _ _ (le-leb (length ls) 256 (omega arith)) (c.loop-literal.invariant ∙ formed_ends ls i c.loop-literal-test.false))
+    let few = le-leb (length ls) 256 c.if-clause-le-MOST_LITERALS.true in
+    let all : c.all.result ≡ list_all literal_formed ls = all_from_yields_List literal_formed _ _ _ c.all.ensures.ran (YieldsList-from_slice ls cc) (λ x b q k. search (rules, tests)) in
+    all ∙ formed_all ls ∙ sym (ap (λ b. b && literals_formed ls) few)

@@ -11,4 +11,4 @@ returns-in_err-give_listed c =
 
 pub returns-in-Exactly : goal.returns-in-Exactly
 returns-in-Exactly c =
-    took_line (page_of c.give_listed-in-Exactly.new.sheet) c.args.line.sense c.args.line.terms.now _ _ c.args.line.bound c.give_listed-in-Exactly.result c.in-Exactly.is c.from-bound.ensures (cc) c.in_ok-give_listed.ensures c.give_listed-in-Exactly.ensures
+    took_line (page_of c.give_listed-in-Exactly.new.sheet) c.args.line.sense c.args.line.terms.terms.now _ _ c.args.line.bound c.give_listed-in-Exactly.result c.in-Exactly.is c.from-bound.ensures (cc) c.in_ok-give_listed.ensures c.give_listed-in-Exactly.ensures

@@ -6,4 +6,4 @@ use Rattle.direct.proofs.Growing.{Way}
 use Rattle.direct.proofs.listing.give_listed.Given as goal
 
 abbrev pub invariant-loop-mask : goal.invariant-loop-mask
-invariant-loop-mask l = Way (page_of l.initial.sheet) (listed l.flip l.terms l.bound) (listed_from (2 ^ length l.terms - l.mask) l.mask l.flip l.terms l.bound) (page_of l.sheet)
+invariant-loop-mask l = Way (page_of l.initial.sheet) (listed l.flip l.terms.terms.now l.bound) (listed_from (2 ^ length l.terms.terms.now - l.mask) l.mask l.flip l.terms.terms.now l.bound) (page_of l.sheet)

@@ -1,13 +1,11 @@
 -- The value is found by search; the laws are those of the definition.
 use Rattle.std.proofs.Common.{rules}
 use Rattle.pb.proofs.Settling.{forced_holds, forced_named, forced_none}
+use Rattle.simplify.proofs.Chains.{First, first_is}
 use Rattle.simplify.proofs.forcing.forced.Goals as goal
 
-pub returns-then-sum-bound : goal.returns-then-sum-bound
-returns-then-sum-bound c = record { value = search rules; holds = forced_holds; named = forced_named; none = forced_none }
-
-pub returns-in-AtLeast : goal.returns-in-AtLeast
-returns-in-AtLeast c = record { value = search rules; holds = forced_holds; named = forced_named; none = forced_none }
-
-pub returns-in-Exactly : goal.returns-in-Exactly
-returns-in-Exactly c = record { value = search rules; holds = forced_holds; named = forced_named; none = forced_none }
+pub returns : goal.returns
+returns c =
+    let e : First c.args.line.sense c.total-sum.result c.from-bound.result c.args.line.terms.now c.find_map.result = search rules in
+    let f = first_is c.args.line.sense c.total-sum.result c.from-bound.result c.args.line.terms.now c.find_map.result e in
+    record { value = search rules; holds = forced_holds; named = forced_named; none = forced_none }

@@ -1,14 +1,10 @@
 -- Each turn keeps its term, or does not.
-use Rattle.std.proofs.Common.{◌≡◌, ◌≤◌, length, get_or, nat_abs, sym, ap, ◌∙◌, arith, w16, w32, SFits, to_z, of_z, rules}
+use Rattle.std.proofs.Common.{◌≡◌, get_or, nat_abs, sym, ◌∙◌, w16, w32, SFits, to_z, of_z, rules}
 use Rattle.std.proofs.lemmas.Int.{to_z-of_z}
-use Rattle.pb.specs.Settled.{others}
-use Rattle.simplify.proofs.Firsts.{none}
-use Rattle.simplify.proofs.Keeping.{kept_none, kept_no, kept_yes, kept_all}
+use Rattle.simplify.proofs.Each.{none}
+use Rattle.simplify.proofs.Keeping.{kept_no, kept_yes}
 use Rattle.simplify.proofs.reducing.keep_others.Goals as goal
 use Rattle.simplify.proofs.reducing.keep_others.Goals.{then-from-variable, else-from-variable}
-
-pub loop-i-init : goal.loop-i-init
-loop-i-init c = kept_none _ _
 
 pub loop-i-preserved : goal.loop-i-preserved
 loop-i-preserved c =
@@ -23,12 +19,3 @@ loop-i-preserved c =
       | else-from-variable w ↦
           simp (w.terms-is, w.count-is) (kept_no l xs ys c.loop-i.count c.loop-i.i c.loop-i.invariant c.loop-i-test.true (sym e ∙ w.if-from-variable.false ∙ c.unsigned_abs-variable.ensures.value))
     ]
-
-pub returns : goal.returns
-returns c =
-    let within : c.loop-i.count ≤ length c.loop-i.terms = omega (arith, c.loop-i.invariant.behind) in
-    record {
-      front = ap (λ z. others z c.args.terms.now) (sym (to_z-of_z w32 _ c.ranges.literal)) ∙ kept_all _ _ _ _ _ c.loop-i.invariant c.loop-i-test.false;
-      within = within;
-      rest = c.loop-i.invariant.rest;
-    }

@@ -1,11 +1,9 @@
--- What is left is found by search; the laws are those of the definition.
-use Rattle.std.proofs.Common.{rules}
-use Rattle.pb.proofs.Tightening.{tighten_keeps, tighten_proper, tighten_leaves, tighten_once}
-use Rattle.pb.proofs.Cases.{worked}
+-- That the line stays proper is a law of the definition.
+use Rattle.pb.proofs.Tightening.{tighten_proper}
 use Rattle.simplify.proofs.tightening.tighten.Goals as goal
 
-pub returns-in-AtLeast : goal.returns-in-AtLeast
-returns-in-AtLeast c = record { left = search rules; keeps = tighten_keeps; proper = tighten_proper; leaves = tighten_leaves; once = tighten_once; worked = worked }
+pub returns-in-AtLeast-clause-proper : goal.returns-in-AtLeast-clause-proper
+returns-in-AtLeast-clause-proper c = tighten_proper
 
-pub returns-in-Exactly : goal.returns-in-Exactly
-returns-in-Exactly c = record { left = search rules; keeps = tighten_keeps; proper = tighten_proper; leaves = tighten_leaves; once = tighten_once; worked = worked }
+pub returns-in-Exactly-clause-proper : goal.returns-in-Exactly-clause-proper
+returns-in-Exactly-clause-proper c = tighten_proper

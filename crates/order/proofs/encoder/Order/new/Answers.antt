@@ -1,7 +1,6 @@
--- The encoder's law and its worked cases.
-use Rattle.encode.proofs.OrderCases.{order_worked}
+-- The encoder's law.
 use Rattle.encode.proofs.Ordering.{order_lawful}
 use Rattle.order.proofs.encoder.Order.new.Goals as goal
 
-pub returns : goal.returns
-returns c = record { law = order_lawful; worked = order_worked }
+pub returns-clause-law : goal.returns-clause-law
+returns-clause-law c = order_lawful

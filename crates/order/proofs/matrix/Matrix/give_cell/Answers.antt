@@ -1,6 +1,5 @@
 -- The four clauses one after another.
-use Rattle.std.proofs.Common.{◌≡◌, ◌*◌, ◌≤◌, [], ◌∷◌, ◌++◌, length, ℤ, pos, ◌-ℤ◌, neg_ℤ, ap, ◌∙◌, arith, w16, w32, SFits, to_z, of_z, rules}
-use Rattle.std.proofs.lemmas.Nat.{mul-le}
+use Rattle.std.proofs.Common.{◌≡◌, [], ◌∷◌, ◌++◌, ℤ, pos, ◌-ℤ◌, neg_ℤ, ap, ◌∙◌, arith, w16, w32, SFits, to_z, of_z, rules}
 use Rattle.std.proofs.lemmas.Int.{ints}
 use Rattle.encode.specs.Order.{counted, cell}
 use Rattle.order.specs.declared.part.Part.TheVariants.{Literal}
@@ -9,13 +8,6 @@ use Rattle.cnf.proofs.Ways.{Way, way_start, way_same, way_on, way_exits, way_las
 use Rattle.order.proofs.matrix.Matrix.give_cell.Given.{Over}
 use Rattle.order.proofs.matrix.Matrix.give_cell.Goals as goal
 use Rattle.order.proofs.matrix.Matrix.give_cell.Goals.{After-from-literal}
-
-pub overflow_add-i : goal.overflow_add-i
-overflow_add-i g c =
-    let m = c.args.self.now in
-    let rows : length m.line.terms.now * 1 ≤ length m.line.terms.now * m.columns = mul-le (length m.line.terms.now) 1 _ _ (omega arith) (omega (arith, c.requires)) in
-    let few = m.few in
-    search rules
 
 -- a number as the code has it
 abbrev coded : ℤ → ℤ

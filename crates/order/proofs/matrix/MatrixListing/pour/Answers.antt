@@ -1,6 +1,6 @@
 -- Each turn gives one row, and at the end the last clauses are given.
-use Rattle.order.proofs.Entries.{rows_more, rows_none}
-use Rattle.cnf.proofs.Ways.{way_same, way_on, way_exits, way_last}
+use Rattle.order.proofs.Entries.{rows_more}
+use Rattle.cnf.proofs.Ways.{way_same, way_on, way_exits}
 use Rattle.order.proofs.matrix.MatrixListing.pour.Goals as goal
 
 pub returns-in_err-give_row : goal.returns-in_err-give_row
@@ -14,10 +14,3 @@ pub loop-i-preserved : goal.loop-i-preserved
 loop-i-preserved g c =
     let m = c.args.self.now in
     way_on _ (way_same (rows_more m.first m.columns c.loop-i.i m.line.terms.now _ _ c.loop-i-test.true) c.loop-i.invariant) c.in_ok-give_row.ensures
-
-pub returns : goal.returns
-returns g c =
-    let m = c.args.self.now in
-    let left = way_same (rows_none m.first m.columns c.loop-i.i m.line.terms.now _ c.loop-i-test.false) c.loop-i.invariant in
-    let p = way_last _ left c.give_last.ensures in
-    record { rule = p.rule; same = p.same; kept = p.kept; answer = p.answer; after = p.after }

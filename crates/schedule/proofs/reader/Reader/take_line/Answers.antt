@@ -1,30 +1,39 @@
 -- A line's terms are read after its first record, whose head was in order.
-use Rattle.std.proofs.Common.{◌≡◌, length, take, drop, Some, Ok, sym, ◌∙◌, arith, w32, SFits, to_z, of_z, rules}
+use Rattle.std.proofs.Common.{◌≡◌, length, Some, Ok, sym, ◌∙◌, arith, w32, SFits, to_z, of_z, rules}
+use Rattle.std.proofs.lemmas.Grind.{common_steps}
+use Rattle.std.proofs.lemmas.List.{take_at}
 use Rattle.std.proofs.lemmas.Result.{err_from_is_err_and}
 use Rattle.std.proofs.lemmas.Option.{MatchOption-at_some}
 use Rattle.std.proofs.lemmas.Int.{to_z-of_z}
+use Rattle.pb.specs.Checks.{checked_head}
+use Rattle.schedule.specs.Place.{rest_of}
+use Rattle.schedule.specs.Records.{relation_in, bound_in, terms_in}
 use Rattle.schedule.specs.Reading.{then, read_line, read_terms}
 use Rattle.schedule.proofs.LineRead.{line_as_terms}
 use Rattle.schedule.proofs.reader.Reader.take_line.Goals as goal
 use Rattle.schedule.proofs.reader.Reader.take_line.Goals.{In_ok-relation}
 
-as_terms : (c : In_ok-relation) → read_line c.args.self.now.at (drop c.args.self.now.at c.args.self.now.input.now) ≡ then (read_terms c.head_in-head.result.terms c.line_or_end.new.self.at (drop c.line_or_end.new.self.at c.line_or_end.new.self.input.now)) (λ ts. Ok (Some (record { relation = c.in_ok-relation.relation; bound = to_z w32 (of_z w32 c.head_in-head.result.bound); terms = ts })))
+as_terms : (c : In_ok-relation) → read_line c.args.self.now.at (rest_of c.args.self.now) ≡ then (read_terms c.from-head.result.terms c.line_or_end.new.self.at (rest_of c.line_or_end.new.self)) (λ ts. Ok (Some (record { relation = c.in_ok-relation.relation; bound = to_z w32 (of_z w32 c.from-head.result.bound); terms = ts })))
 as_terms c =
-    let fits : SFits w32 c.head_in-head.result.bound = search rules in
-    let held = c.head_in-head.ensures in
+    let fits : SFits w32 c.from-head.result.bound = search rules in
+    let same = to_z-of_z w32 _ fits in
     let first = MatchOption-at_some _ _ c.in-Some.record c.in-Some.is c.in_ok-record.ensures.cases in
-    let head = sym c.check_head.ensures ∙ c.in_ok-relation.ensures in
-    rw (first.3, c.line_or_end.ensures.input) (line_as_terms c.args.self.now.at c.args.self.now.input.now c.in-Some.record.body.now _ _ _ _ first.0 held.0 (to_z-of_z w32 _ fits ∙ held.2) held.1 head)
+    let body = c.in-Some.record.body.now in
+    let head : checked_head (relation_in body) (bound_in body) (terms_in body) ≡ Ok c.in_ok-relation.relation = grind (arith, common_steps) in
+    let held = rw c.bytes.ensures at c.from-head.ensures in
+    rw (first.3.moved, first.3.same_file, same, held.1, held.2) (line_as_terms _ _ body _ first.0 head)
 
-pub returns-in_err-terms : goal.returns-in_err-terms
-returns-in_err-terms c =
-    let p = err_from_is_err_and c.from_residual-in_err-terms.result c.from_residual-in_err-terms.ensures.1 in
-    let met = c.in_err-terms.ensures in
-    record { input = met.input ∙ c.line_or_end.ensures.input; cases = rw (p.1, p.2) (as_terms (goal.at.returns-in_err-terms c).In_ok-relation ∙ rw met.cases) }
+pub returns-in_err-take_terms : goal.returns-in_err-take_terms
+returns-in_err-take_terms c =
+    let p = err_from_is_err_and c.from_residual-in_err-take_terms.result c.from_residual-in_err-take_terms.ensures.1 in
+    let met = c.in_err-take_terms.ensures.cases in
+    let few : length c.take_terms.new.terms ≡ c.from-head.result.terms = search rules in
+    let first = MatchOption-at_some _ _ c.in-Some.record c.in-Some.is c.in_ok-record.ensures.cases in
+    record { cases = rw (p.1, p.2) (as_terms (goal.at.returns-in_err-take_terms c).In_ok-relation ∙ rw (sym few, met.0), met.1 ∙ first.3.same_file) }
 
 pub returns : goal.returns
 returns c =
     let first = MatchOption-at_some _ _ c.in-Some.record c.in-Some.is c.in_ok-record.ensures.cases in
-    let met = c.in_ok-terms.ensures in
-    let size : length (take c.head_in-head.result.terms c.in_ok-terms.terms) ≡ c.head_in-head.result.terms = search rules in
-    record { input = met.input ∙ c.line_or_end.ensures.input; cases = (as_terms (goal.at.returns c).In_ok-relation ∙ rw met.cases.0, first.2, omega (arith, first.3, met.cases.1, size)) }
+    let met = c.in_ok-take_terms.ensures.cases in
+    let few : length c.take_terms.new.terms ≡ c.from-head.result.terms = search rules in
+    record { cases = (as_terms (goal.at.returns c).In_ok-relation ∙ rw (take_at, sym few, met.0), first.2, record { same_file = met.1.same_file ∙ first.3.same_file; moved = rw take_at (omega arith) }) }

@@ -1,12 +1,12 @@
 -- What is left to read, put behind the terms read so far, is what there was to read.
-use Rattle.std.proofs.Common.{◌≡◌, ◌+◌, ◌-◌, ◌*◌, length, take, drop}
+use Rattle.std.proofs.Common.{◌≡◌, ◌-◌, ◌*◌, length, take}
+use Rattle.schedule.specs.Place.{rest_of, ReadOn}
 use Rattle.schedule.specs.Reading.{read_terms}
 use Rattle.schedule.proofs.Terms.{behind}
 use Rattle.schedule.proofs.reader.Reader.take_terms.Given as goal
 
-abbrev pub invariant-loop-i : goal.invariant-loop-i
-invariant-loop-i l =
-    (behind (take l.i l.terms) (read_terms (l.count - l.i) l.self.at (drop l.self.at l.self.input.now)) ≡ read_terms l.count l.initial.self.at (drop l.initial.self.at l.initial.self.input.now))
-    × (l.self.input.now ≡ l.initial.self.input.now)
-    × (l.self.at ≡ l.initial.self.at + 8 * l.i)
-    × (length l.terms ≡ 64)
+abbrev pub invariant-loop-term : goal.invariant-loop-term
+invariant-loop-term l = record {
+  so_far : behind (take l.term-index l.terms) (read_terms (length l.terms - l.term-index) l.self.at (rest_of l.self)) ≡ read_terms (length l.terms) l.initial.self.at (rest_of l.initial.self);
+  on : ReadOn l.initial.self l.self (8 * l.term-index);
+}

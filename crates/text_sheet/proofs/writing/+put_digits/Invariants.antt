@@ -1,5 +1,0 @@
--- A tenth is less.
-use Rattle.text_sheet.proofs.writing.+put_digits.Given as goal
-
-abbrev pub decreases-put_digits : goal.decreases-put_digits
-decreases-put_digits l = l.n
