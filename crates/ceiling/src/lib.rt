@@ -13,6 +13,7 @@ use fault::sheet::SheetFault;
 pub struct Ceiling<'a, S: Sheet> {
     below: &'a mut S,
     most: usize,
+    ghost few: { length (S.Sheet.held below.now) ≤ most },
 }
 
 impl<'a, S: Sheet> Ceiling<'a, S> {
@@ -21,7 +22,6 @@ impl<'a, S: Sheet> Ceiling<'a, S> {
         ensures below { result.below.now ≡ below.old }
         ensures same { result.below.ghost_name ≡ below.entry.ghost_name }
         ensures most { result.most ≡ max most (length (S.Sheet.held below.old)) }
-        ensures few { length (S.Sheet.held result.below.now) ≤ result.most }
     {
         let held = below.count();
         Ceiling {
@@ -36,9 +36,7 @@ impl<'a, S: Sheet> Sheet for Ceiling<'a, S> {
 
     ghost fits = { λ s. capped s.most (S.Sheet.fits s.below.now) };
 
-    ghost ok = { λ s. S.Sheet.ok s.below.now × (length (S.Sheet.held s.below.now) ≤ s.most) };
-
-    ghost sound = { λ s o. capped_holds s.most (S.Sheet.fits s.below.now) (S.Sheet.held s.below.now) o.1 (S.Sheet.sound s.below.now o.0) };
+    ghost sound = { λ s. capped_holds s.most (S.Sheet.fits s.below.now) (S.Sheet.held s.below.now) s.few (S.Sheet.sound s.below.now) };
 
     ghost begins = { λ s. capped_begins s.most (S.Sheet.fits s.below.now) (S.Sheet.begins s.below.now) };
 

@@ -12,15 +12,14 @@ use Rattle.cnf.specs.Sheets.{Poured}
 pub record Way {S : Type 0} (sheet : Ghosts S) (s t : S) (all left : List Clause) : Type 0 where
   pub rule : sheet.fits t ≡ sheet.fits s
   pub same : sheet.loan t ≡ sheet.loan s
-  pub kept : sheet.ok s → sheet.ok t
   pub rest : Left (sheet.fits s) (sheet.held s) all (sheet.held t) left
 
 module _ {S : Type 0} {sheet : Ghosts S} where
   pub way_start : (s : S) (all : List Clause) → Way sheet s s all all
-  way_start s all = record { rule = refl; same = refl; kept = λ h. h; rest = left_all (sheet.fits s) (sheet.held s) all }
+  way_start s all = record { rule = refl; same = refl; rest = left_all (sheet.fits s) (sheet.held s) all }
 
   pub way_same : {s t : S} {all left rest : List Clause} → left ≡ rest → Way sheet s t all left → Way sheet s t all rest
-  way_same e w = record { rule = w.rule; same = w.same; kept = w.kept; rest = left_same e w.rest }
+  way_same e w = record { rule = w.rule; same = w.same; rest = left_same e w.rest }
 
   -- what a list gives on the way, by the rule at the start
   module _ {s t u : S} {all left : List Clause} {r : Result (Unit {0}) SheetFault} (cs : List Clause) (w : Way sheet s t all left) (p : Poured sheet t u r cs) where
@@ -32,14 +31,14 @@ module _ {S : Type 0} {sheet : Ghosts S} where
 
   pub way_on : {s t u : S} {all left : List Clause} (cs : List Clause) → Way sheet s t all (cs ++ left) → Poured sheet t u (Ok tt) cs → Way sheet s u all left
   way_on cs w p =
-      record { rule = p.rule ∙ w.rule; same = p.same ∙ w.same; kept = λ h. p.kept (w.kept h); rest = left_poured cs (answer_by cs w p) (after_by cs w p) w.rest }
+      record { rule = p.rule ∙ w.rule; same = p.same ∙ w.same; rest = left_poured cs (answer_by cs w p) (after_by cs w p) w.rest }
 
   -- the exit of a `?`: the refusal of one list is that of all
   pub way_exits : {s t u : S} {all : List Clause} {r : Result (Unit {0}) SheetFault} (cs left : List Clause) (e : SheetFault) → Way sheet s t all (cs ++ left) → Poured sheet t u (Err e) cs → IsErrAnd r (λ x. x ≡ e) → Poured sheet s u r all
   way_exits {r = r} cs left e w p h =
       let x = err_from_is_err_and r h in
       let q = left_refused cs left e (answer_by cs w p) (after_by cs w p) w.rest in
-      record { rule = p.rule ∙ w.rule; same = p.same ∙ w.same; kept = λ k. p.kept (w.kept k); answer = x.1 ∙ ap Err x.2 ∙ q.0; after = q.1 }
+      record { rule = p.rule ∙ w.rule; same = p.same ∙ w.same; answer = x.1 ∙ ap Err x.2 ∙ q.0; after = q.1 }
 
   -- the last list, however it ends
   pub way_last : {s t u : S} {all : List Clause} {r : Result (Unit {0}) SheetFault} (cs : List Clause) → Way sheet s t all cs → Poured sheet t u r cs → Poured sheet s u r all
@@ -47,10 +46,9 @@ module _ {S : Type 0} {sheet : Ghosts S} where
       record {
         rule = p.rule ∙ w.rule;
         same = p.same ∙ w.same;
-        kept = λ h. p.kept (w.kept h);
         answer = answer_by cs w p ∙ sym w.rest.answer;
         after = after_by cs w p ∙ sym w.rest.held;
       }
 
   pub way_ends : {s t : S} {all : List Clause} → Way sheet s t all [] → Poured sheet s t (Ok tt) all
-  way_ends w = let q = left_none w.rest in record { rule = w.rule; same = w.same; kept = w.kept; answer = q.0; after = q.1 }
+  way_ends w = let q = left_none w.rest in record { rule = w.rule; same = w.same; answer = q.0; after = q.1 }

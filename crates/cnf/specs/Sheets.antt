@@ -6,17 +6,15 @@ use Rattle.cnf.specs.Calls.{pour_answer, pour_held, all_answer, all_held, whole_
 use Rattle.cnf.specs.Clauses.{Clause, all_well_formed}
 use Rattle.cnf.specs.declared.sheet.Sheet.{Ghosts}
 
--- whatever the call did, the sheet's rule and its loan stay, and what its maker established
+-- whatever the call did, the sheet's rule and its loan stay
 pub record Kept {S : Type 0} (sheet : Ghosts S) (s t : S) : Type 0 where
   pub rule : sheet.fits t ≡ sheet.fits s
   pub same : sheet.loan t ≡ sheet.loan s
-  pub kept : sheet.ok s → sheet.ok t
 
 -- clauses are given one after another, up to the first that is refused
 pub record Poured {S : Type 0} (sheet : Ghosts S) (s t : S) (r : Result (Unit {0}) SheetFault) (cs : List Clause) : Type 0 where
   pub rule : sheet.fits t ≡ sheet.fits s
   pub same : sheet.loan t ≡ sheet.loan s
-  pub kept : sheet.ok s → sheet.ok t
   pub answer : r ≡ pour_answer (sheet.fits s) (sheet.held s) cs
   pub after : sheet.held t ≡ pour_held (sheet.fits s) (sheet.held s) cs
 
@@ -24,7 +22,6 @@ pub record Poured {S : Type 0} (sheet : Ghosts S) (s t : S) (r : Result (Unit {0
 pub record GivenAll {S : Type 0} (sheet : Ghosts S) (s t : S) (r : Result ℕ SheetFault) (cs : List Clause) : Type 0 where
   pub rule : sheet.fits t ≡ sheet.fits s
   pub same : sheet.loan t ≡ sheet.loan s
-  pub kept : sheet.ok s → sheet.ok t
   pub answer : r ≡ all_answer (sheet.fits s) (sheet.held s) cs
   pub after : sheet.held t ≡ all_held (sheet.fits s) (sheet.held s) cs
-  pub whole : sheet.ok s → all_well_formed cs ≡ true → r ≡ whole_answer (sheet.fits s) (sheet.held s) cs
+  pub whole : all_well_formed cs ≡ true → r ≡ whole_answer (sheet.fits s) (sheet.held s) cs

@@ -13,11 +13,8 @@ pub trait Sheet {
     // Which lists of clauses fit the sheet: a rule that no call changes.
     ghost fits: { Self → List Clause → Bool };
 
-    // What its maker establishes and every call keeps.
-    ghost ok: { Self → Type 0 };
-
     // What it holds fits.
-    ghost sound: { (s : Self) → ok s → fits s (held s) ≡ true };
+    ghost sound: { (s : Self) → fits s (held s) ≡ true };
 
     // Every beginning of a list that fits fits.
     ghost begins: { (s : Self) → Begins (fits s) };
@@ -37,7 +34,6 @@ pub trait Sheet {
     fn give(&mut self, clause: &[i32]) -> Result<usize, SheetFault>
         ensures rule { fits self.new ≡ fits self.old }
         ensures same { loan self.new ≡ loan self.old }
-        ensures kept { ok self.old → ok self.new }
         ensures answer { result ≡ give_answer (fits self.old) (held self.old) (of_literals clause.now) }
         ensures after { held self.new ≡ give_held (fits self.old) (held self.old) (of_literals clause.now) };
 
@@ -45,7 +41,6 @@ pub trait Sheet {
     fn cut(&mut self, keep: usize) -> Result<(), SheetFault>
         ensures rule { fits self.new ≡ fits self.old }
         ensures same { loan self.new ≡ loan self.old }
-        ensures kept { ok self.old → ok self.new }
         ensures answer { result ≡ cut_answer (held self.old) keep }
         ensures after { held self.new ≡ cut_held (held self.old) keep };
 }

@@ -27,6 +27,5 @@ encode_held e fits cs w first = cond (e.reach w) (all_held fits cs (e.clauses w 
 pub record Encoded {S : Type 0} (sheet : Ghosts S) (s t : S) (r : Result ℕ EncodeFault) (e : Encoding) (w : Working) (first : ℕ) : Type 0 where
   pub rule : sheet.fits t ≡ sheet.fits s
   pub same : sheet.loan t ≡ sheet.loan s
-  pub kept : sheet.ok s → sheet.ok t
   pub answer : r ≡ encode_answer e (sheet.fits s) (sheet.held s) w first
   pub after : sheet.held t ≡ encode_held e (sheet.fits s) (sheet.held s) w first

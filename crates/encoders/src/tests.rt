@@ -9,8 +9,8 @@ use flat::sheet::FlatSheet;
 use order::encoder::Order;
 use pb::working::Sense::{AtLeast, Exactly};
 use pb::working::{Sense, Weighted, WorkingLine};
-use text_sheet::finished::finish;
-use text_sheet::sheet::TextSheet;
+use text::finished::finish;
+use text::sheet::TextSheet;
 
 const fn on(weight: u32, literal: i16) -> Weighted {
     Weighted { weight, literal }

@@ -22,7 +22,7 @@ impl Lay for InCells {
 
     fn put(cells: &mut [i32], at: usize, clause: FormedClause<'_>) -> Option<usize> {
         let literals = clause.literals();
-        // the last 0
+        // and the 0 that ends it
         let size = literals.len() + 1;
         let end = at.checked_add(size)?;
         if end > cells.len() {

@@ -5,7 +5,7 @@
 use output::{INPUT, print};
 use std::io;
 use std::io::Read;
-use translate_sheets::by_terms;
+use translate::by_terms;
 
 // Kept: beside the other program's, since the input is read here: no library takes memory from the heap.
 fn main(rt: HostRuntime) -> io::Result<()> {

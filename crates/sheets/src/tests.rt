@@ -3,8 +3,8 @@ use ceiling::Ceiling;
 use cnf::sheet::Sheet;
 use fault::sheet::SheetFault;
 use flat::sheet::FlatSheet;
-use text_sheet::finished::finish;
-use text_sheet::sheet::TextSheet;
+use text::finished::finish;
+use text::sheet::TextSheet;
 
 #[test]
 fn a_flat_sheet(rt: HostRuntime) {

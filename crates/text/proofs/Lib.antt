@@ -1,4 +1,2 @@
-mod Putting
-mod Feeds
-pub mod Laws
-mod Sheets
+mod Lengths
+mod Words

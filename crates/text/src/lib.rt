@@ -1,7 +1,7 @@
 // Clauses as DIMACS text over lent bytes.
 #![tactic(auto)]
 
+pub mod finished;
+mod reading;
 pub mod sheet;
-#[cfg(test)]
-mod tests;
 mod writing;

@@ -1,35 +1,39 @@
-// Texts and rows, each written at a place of lent bytes. The answer is the place after it, or nothing where it does
-// not fit.
-ghost use Rattle.std.specs.Prelude.{◌≤◌, length};
-ghost use Rattle.text.specs.Rows.{row};
-ghost use Rattle.text.specs.Puts.{Put};
+// Numbers and bytes written at a place of lent bytes, and how many bytes the numbers take.
+ghost use Rattle.std.specs.Prelude.{◌≡◌, ◌+◌, ◌^◌, ◌<◌, ◌≤◌, length, sum_by};
+ghost use Rattle.std.specs.Fmt.{signed_decimal};
+ghost use Rattle.cnf.specs.Tables.{overwritten};
+ghost use Rattle.cnf.specs.Text.{row_of};
 
+use cnf::clause::FormedClause;
 use itoa::Buffer;
 
-// Kept: beside `put_bytes` of `text_sheet`, where there is room.
-fn put(out: &mut [u8], at: usize, text: &[u8]) -> Option<usize>
-    requires { at ≤ length out.old }
-    ensures { Put result at text.now out.old out.new }
+// The literals' bytes, with the space behind each.
+fn literals_size(literals: &[i32]) -> usize
+    requires { sum_by (λ l. length (signed_decimal l) + 1) literals.now < 2 ^ 64 }
+    ensures { result ≡ sum_by (λ l. length (signed_decimal l) + 1) literals.now }
 {
-    let end = at + text.len();
-    if end > out.len() {
-        return None;
-    }
-    out[at..end].copy_from_slice(text);
-    Some(end)
+    literals
+        .iter()
+        .map(|literal| Buffer::new().format(*literal).len() + 1)
+        .sum()
 }
 
-// A clause as a row of its own.
-// Kept: beside the rows of `text_sheet`, which are measured first, as only well-formed clauses can be; here a row that does not fit is begun.
-pub(crate) fn put_row(out: &mut [u8], at: usize, clause: &[i32]) -> Option<usize>
-    requires { at ≤ length out.old }
-    ensures { Put result at (row clause.now) out.old out.new }
+// The bytes of a clause's row: a row that does not fit is not begun.
+pub(crate) fn row_size(clause: FormedClause<'_>) -> usize
+    ensures { result ≡ length (row_of clause.entry.literals.now) }
 {
-    let mut digits = Buffer::new();
-    let mut to = at;
-    for literal in clause {
-        to = put(out, to, digits.format(*literal).as_bytes())?;
-        to = put(out, to, b" ")?;
-    }
-    put(out, to, b"0\n")
+    // and the 0 and the line feed that end it
+    literals_size(clause.literals()) + 2
+}
+
+// Writes from this place on, and answers the place after it.
+// Kept: the place is handed on, since a writer over the bytes would answer a Result that is never an error.
+pub(crate) fn put_bytes(out: &mut [u8], at: usize, text: &[u8]) -> usize
+    requires { at + length text.now ≤ length out.old }
+    ensures after { out.new ≡ overwritten at text.now out.old }
+    ensures ends { result ≡ at + length text.now }
+{
+    let end = at + text.len();
+    out[at..end].copy_from_slice(text);
+    end
 }

@@ -1,3 +1,4 @@
 pub mod Translation
 pub mod Streaming
 pub mod Entering
+pub mod Whole

@@ -1,56 +1,86 @@
--- From the bytes of a schedule file to a page of clause text: the whole file is read first, then each line is written,
--- in order, by the direct encoder from its normal form, tightened.
-use Rattle.std.specs.Prelude.{◌≡◌, ℕ, suc, cond, List, [], ◌∷◌, Ok, Err, Result}
-use Rattle.fault.specs.declared.book.BookFault.TheVariants.{Reach}
-use Rattle.fault.specs.declared.sheet.SheetFault.TheVariants.{Full}
+-- From the bytes of a schedule file to clauses: the whole file is read first, then each line is written, in order, from
+-- its normal form, tightened.
+use Rattle.std.specs.Prelude.{◌≡◌, ℕ, suc, ◌+◌, cond, List, [], ◌∷◌, ◌++◌, length, Ok, Err, Result, nat_le}
+use Rattle.fault.specs.declared.book.BookFault.TheVariants.{Reach, Auxiliary}
+use Rattle.fault.specs.declared.file.FileFault.{FileFault}
 use Rattle.fault.specs.declared.refusal.Refusal.{Refusal}
-use Rattle.fault.specs.Refusals.{book_refusal, sheet_refusal}
+use Rattle.fault.specs.declared.sheet.SheetFault.{SheetFault}
+use Rattle.fault.specs.Refusals.{book_refusal, sheet_refusal, file_refusal}
+use Rattle.cnf.specs.Calls.{Rule, all_answer}
+use Rattle.cnf.specs.Clauses.{Clause}
+use Rattle.encode.specs.Choice.{up_to}
+use Rattle.encode.specs.Direct.{direct_encoding}
+use Rattle.encode.specs.Law.{Encoding}
+use Rattle.encode.specs.Order.{order_encoding}
+use Rattle.pb.specs.Checks.{Sound}
 use Rattle.pb.specs.Lines.{Line, Working}
-use Rattle.direct.specs.Lists.{direct_list, direct_reach}
+use Rattle.pb.specs.Meaning.{Assignment}
+use Rattle.pb.specs.Meaning.{meets, met}
+use Rattle.pb.specs.Normal.{normal}
+use Rattle.pb.specs.Proper.{Proper}
+use Rattle.pb.specs.Tightened.{tightened}
 use Rattle.schedule.specs.Reading.{then, Schedule, read_schedule}
 use Rattle.schedule.specs.Writing.{Takes, file_of}
-use Rattle.text.specs.Rows.{Clause, Page, grown, fits}
-use Rattle.translate_sheets.specs.declared.header.Header.{Header}
-use Rattle.translate_sheets.specs.Translation.{working_form, or_refusal}
+use Rattle.translate.specs.declared.header.Header.{Header}
 
--- the clauses of a working line
-abbrev pub clauses_of : Working → List Clause
-clauses_of w = direct_list w.sense w.bound w.terms
+-- the working form in which a line of a job of n variables is written
+abbrev pub working_form : ℕ → Line → Working
+working_form n l = tightened (normal n l)
 
--- the page with a line of this number written to it in its working form
-abbrev pub write_form : ℕ → Page → Working → Result Page Refusal
-write_form number p w =
-    cond (direct_reach w.terms)
-    (cond (fits p (clauses_of w)) (Ok (grown p (clauses_of w))) (Err (sheet_refusal (Full p.count))))
+-- lines of up to 12 terms go to the direct encoder, and the others to the order encoder
+abbrev pub encoding : Encoding
+encoding = up_to 12 direct_encoding order_encoding
+
+-- how far writing has come: the clauses held, and the highest number taken by a variable or an auxiliary
+pub record Progress : Type 0 where
+  pub held : List Clause
+  pub numbers : ℕ
+
+-- so many auxiliaries and these clauses more, or the sheet's refusal
+abbrev pub advanced : Progress → ℕ → List Clause → Result ℕ SheetFault → Result Progress Refusal
+advanced p takes ds (Ok many) = Ok (record { held = p.held ++ ds; numbers = p.numbers + takes })
+advanced p takes ds (Err e) = Err (sheet_refusal e)
+
+-- a line of this number written in its working form
+abbrev pub write_by : Encoding → Rule → ℕ → Progress → Working → Result Progress Refusal
+write_by e fits number p w =
+    cond (e.reach w)
+    (cond (nat_le (p.numbers + e.takes w) 60000)
+    (advanced p (e.takes w) (e.clauses w (suc p.numbers)) (all_answer fits p.held (e.clauses w (suc p.numbers))))
+    (Err (book_refusal (Auxiliary number) 0)))
     (Err (book_refusal (Reach number) 0))
 
--- lines of a job of n variables, of which the first has this number, written one after the other
-abbrev pub lines_written : ℕ → ℕ → Page → List Line → Result Page Refusal
-lines_written n number p [] = Ok p
-lines_written n number p (l ∷ ls) = then (write_form number p (working_form n l)) (λ q. lines_written n (suc number) q ls)
+-- lines of a job of n variables, of which the first has this number, written one after the other by an encoder of this
+-- meaning
+abbrev pub lines_written : Encoding → Rule → ℕ → ℕ → Progress → List Line → Result Progress Refusal
+lines_written e fits n number p [] = Ok p
+lines_written e fits n number p (l ∷ ls) = then (write_by e fits number p (working_form n l)) (λ q. lines_written e fits n (suc number) q ls)
 
--- how many variables a translated file has, and the page that its clauses were written to
-pub record Translated : Type 0 where
-  pub variables : ℕ
-  pub page : Page
+abbrev pub write_schedule : Encoding → Rule → List Clause → Schedule → Result Progress Refusal
+write_schedule e fits cs s = lines_written e fits s.variables 1 (record { held = cs; numbers = s.variables }) s.lines
 
-abbrev pub write_schedule : Page → Schedule → Result Translated Refusal
-write_schedule p s = then (lines_written s.variables 1 p s.lines) (λ q. Ok (record { variables = s.variables; page = q }))
+abbrev pub or_refusal : {X : Type 0} → Result X FileFault → Result X Refusal
+or_refusal (Ok x) = Ok x
+or_refusal (Err e) = Err (file_refusal e)
 
 -- the book of a run holds 24 lines and 512 terms
-abbrev pub translation : Page → List ℕ → Result Translated Refusal
-translation p input = then (or_refusal (read_schedule 24 512 input)) (write_schedule p)
+abbrev pub translation : Encoding → Rule → List Clause → List ℕ → Result Progress Refusal
+translation e fits cs input = then (or_refusal (read_schedule 24 512 input)) (write_schedule e fits cs)
 
--- the file was translated: from the page p came q, and the header's two numbers are true of it
-pub record Done (input : List ℕ) (p q : Page) (h : Header) : Type 0 where
-  pub page : translation p input ≡ Ok (record { variables = h.variables; page = q })
-  pub clauses : h.clauses ≡ q.count
+-- the file was translated: the sheet that held cs holds ds, and the header's two numbers are true
+pub record Done (e : Encoding) (fits : Rule) (input : List ℕ) (cs ds : List Clause) (h : Header) : Type 0 where
+  pub written : translation e fits cs input ≡ Ok (record { held = ds; numbers = h.variables })
+  pub clauses : h.clauses ≡ length ds
 
--- the file was refused, and the page is as it was
-pub record Undone (input : List ℕ) (p q : Page) (e : Refusal) : Type 0 where
-  pub refusal : translation p input ≡ Err e
-  pub same : q ≡ p
+-- the file was refused, and the sheet holds what it held
+pub record Undone (e : Encoding) (fits : Rule) (input : List ℕ) (cs ds : List Clause) (r : Refusal) : Type 0 where
+  pub refusal : translation e fits cs input ≡ Err r
+  pub same : ds ≡ cs
 
 -- the file of a schedule gives the clauses of just that schedule
-abbrev pub OfSchedules : List ℕ → Page → Type 0
-OfSchedules input p = (s : Schedule) → Takes 24 512 s → input ≡ file_of s → translation p input ≡ write_schedule p s
+abbrev pub OfSchedules : Encoding → Rule → List ℕ → List Clause → Type 0
+OfSchedules e fits input cs = (s : Schedule) → Takes 24 512 s → input ≡ file_of s → translation e fits cs input ≡ write_schedule e fits cs s
+
+-- the form that a line is written in is met by just the assignments that meet the line
+abbrev pub FormsKeep : Type 0
+FormsKeep = (n : ℕ) (l : Line) → Sound n l → Proper n (working_form n l) × ((a : Assignment) → met a (working_form n l) ≡ meets a l)

@@ -1,72 +1,116 @@
-// From the bytes of a schedule file to clause text.
-// Kept: beside the walk of `translate_sheets`, since a text sheet takes malformed clauses too and so is no `cnf::Sheet`.
+// From the bytes of a schedule file to clauses.
 #![tactic(auto)]
 
 ghost use Rattle.std.specs.Prelude.{◌≡◌, Err, MatchResult};
+ghost use Rattle.encode.specs.Models.{ModelsExtend};
+ghost use Rattle.cnf.specs.Sheets.{Kept};
 ghost use Rattle.schedule.specs.Place.{rest_of};
-ghost use Rattle.text.specs.Pages.{page_of};
-ghost use Rattle.translate.specs.Translation.{translation, Done, Undone, OfSchedules};
-ghost use Rattle.translate.specs.Streaming.{fresh, written, coming, Grew};
-ghost use Rattle.translate_sheets.specs.Translation.{FormsKeep};
+ghost use Rattle.translate.specs.Translation.{encoding, translation, Done, Undone, OfSchedules, FormsKeep};
+ghost use Rattle.translate.specs.Streaming.{fresh, progress, coming, Added};
+ghost use Rattle.translate.specs.Whole.{WholeLists};
 
+use choose::UpTo;
+use cnf::sheet::Sheet;
+use direct_encoder::encoder::Direct;
+use encode::encoder::Encoder;
 use fault::refusal::Refusal;
 use header::Header;
+use order::encoder::Order;
 use pb::variables::Variables;
 use run::Run;
 use schedule::reader::Reader;
-use text::sheet::TextSheet;
 
+pub mod header;
 mod run;
 mod taking;
-#[cfg(test)]
-mod tests;
+mod writing;
 
-pub use translate_sheets::header;
-
-// Takes line by line to the end of the file.
-#[tactic(auto, using(crate::proofs::Steps::comes_to, crate::proofs::Steps::grew_on))]
-fn write_lines(
+// Takes line by line to the end of the file, and answers the highest number taken by a variable or an auxiliary.
+fn write_lines<E: Encoder, S: Sheet>(
+    encoder: &E,
     reader: &mut Reader<'_>,
     variables: Variables,
-    sheet: &mut TextSheet<'_>,
-) -> Result<(), Refusal>
-    ensures grew { Grew (page_of sheet.old) (page_of sheet.new) }
-    ensures comes { coming (fresh variables) (page_of sheet.old) reader.old.at (rest_of reader.old) ≡ written result (page_of sheet.new) }
+    sheet: &mut S,
+) -> Result<u16, Refusal>
+    ensures added { Added S.Sheet sheet.old sheet.new }
+    ensures comes { coming (E.Encoder.meaning encoder.now) (S.Sheet.fits sheet.old) (fresh variables) (S.Sheet.held sheet.old) reader.old.at (rest_of reader.old) ≡ progress result (S.Sheet.held sheet.new) }
 {
     let mut run = Run::new(variables);
     while let Some(line) = reader.line()? {
-        run.take_line(&line, sheet)?;
+        run.take_line(encoder, &line, sheet)?;
     }
     run.written
 }
 
 // Reads the whole file and writes its lines after what the sheet holds.
-fn write_file(input: &[u8], sheet: &mut TextSheet<'_>) -> Result<Header, Refusal>
-    ensures grew { Grew (page_of sheet.old) (page_of sheet.new) }
-    ensures cases { MatchResult result (λ h. Done input.now (page_of sheet.old) (page_of sheet.new) h) (λ e. translation (page_of sheet.old) input.now ≡ Err e) }
+fn write_file<E: Encoder, S: Sheet>(
+    encoder: &E,
+    input: &[u8],
+    sheet: &mut S,
+) -> Result<Header, Refusal>
+    ensures added { Added S.Sheet sheet.old sheet.new }
+    ensures cases { MatchResult result
+        (λ h. Done (E.Encoder.meaning encoder.now) (S.Sheet.fits sheet.old) input.now (S.Sheet.held sheet.old) (S.Sheet.held sheet.new) h)
+        (λ r. translation (E.Encoder.meaning encoder.now) (S.Sheet.fits sheet.old) (S.Sheet.held sheet.old) input.now ≡ Err r) }
 {
     let mut reader = Reader::new(input);
     let variables = reader.variables()?;
-    write_lines(&mut reader, variables, sheet)?;
+    let numbers = write_lines(encoder, &mut reader, variables, sheet)?;
     Ok(Header {
-        variables: variables.count(),
+        variables: numbers,
         clauses: sheet.count(),
     })
 }
 
-// Writes the clauses of a schedule file after what the sheet holds, and answers what stands before
+// Writes the clauses that an encoder makes of a schedule file after what the sheet holds, and answers what stands before
 // them; or says why not, and leaves the sheet as it was.
+// Kept: encoder and sheet as two parameters, here and below, since one is only read and the other written, and no call keeps both.
 #[tactic(auto, using(crate::proofs::Steps::of_a_schedule))]
-pub fn translate(input: &[u8], sheet: &mut TextSheet<'_>) -> Result<Header, Refusal>
-    ensures cases { MatchResult result (λ h. Done input.now (page_of sheet.old) (page_of sheet.new) h) (λ e. Undone input.now (page_of sheet.old) (page_of sheet.new) e) }
-    ensures reads { OfSchedules input.now (page_of sheet.old) }
+pub fn translate_by<E: Encoder, S: Sheet>(
+    encoder: &E,
+    input: &[u8],
+    sheet: &mut S,
+) -> Result<Header, Refusal>
+    ensures stays { Kept S.Sheet sheet.old sheet.new }
+    ensures cases { MatchResult result
+        (λ h. Done (E.Encoder.meaning encoder.now) (S.Sheet.fits sheet.old) input.now (S.Sheet.held sheet.old) (S.Sheet.held sheet.new) h)
+        (λ r. Undone (E.Encoder.meaning encoder.now) (S.Sheet.fits sheet.old) input.now (S.Sheet.held sheet.old) (S.Sheet.held sheet.new) r) }
+    ensures reads { OfSchedules (E.Encoder.meaning encoder.now) (S.Sheet.fits sheet.old) input.now (S.Sheet.held sheet.old) }
     ensures forms { FormsKeep }
+    ensures models { ModelsExtend (E.Encoder.meaning encoder.now) }
+    ensures whole { WholeLists (E.Encoder.meaning encoder.now) (S.Sheet.fits sheet.old) input.now (S.Sheet.held sheet.old) }
 {
     let before = sheet.count();
-    let outcome = write_file(input, sheet);
+    let outcome = write_file(encoder, input, sheet);
     if outcome.is_err() {
         // lines before the refused one may have been written
         let _ = sheet.cut(before);
     }
     outcome
+}
+
+// The direct encoder for lines of up to 12 terms, the order encoder for the others.
+pub fn by_terms() -> UpTo<Direct, Order>
+    ensures most { result.most ≡ 12 }
+    ensures meaning { ⟦<UpTo<Direct, Order> as Encoder>⟧.meaning result ≡ encoding }
+{
+    UpTo {
+        most: 12,
+        few: Direct::new(),
+        many: Order::new(),
+    }
+}
+
+// The same by the encoder that goes by a line's terms.
+pub fn translate<S: Sheet>(input: &[u8], sheet: &mut S) -> Result<Header, Refusal>
+    ensures stays { Kept S.Sheet sheet.old sheet.new }
+    ensures cases { MatchResult result
+        (λ h. Done encoding (S.Sheet.fits sheet.old) input.now (S.Sheet.held sheet.old) (S.Sheet.held sheet.new) h)
+        (λ r. Undone encoding (S.Sheet.fits sheet.old) input.now (S.Sheet.held sheet.old) (S.Sheet.held sheet.new) r) }
+    ensures reads { OfSchedules encoding (S.Sheet.fits sheet.old) input.now (S.Sheet.held sheet.old) }
+    ensures forms { FormsKeep }
+    ensures models { ModelsExtend encoding }
+    ensures whole { WholeLists encoding (S.Sheet.fits sheet.old) input.now (S.Sheet.held sheet.old) }
+{
+    translate_by(&by_terms(), input, sheet)
 }

@@ -3,7 +3,6 @@ use fault::refusal::Refusal;
 use pb::variables::Variables;
 
 // The book of a run, by what is left of it, and what writing has come to.
-// Kept: beside that of `translate_sheets`, where writing comes to a number besides.
 #[derive(Clone, Copy)]
 pub(crate) struct Run {
     pub(crate) variables: Variables,
@@ -11,6 +10,6 @@ pub(crate) struct Run {
     pub(crate) held: usize,
     // terms that are still free
     pub(crate) free: usize,
-    // the first refusal of writing, if there was one
-    pub(crate) written: Result<(), Refusal>,
+    // the highest number taken by a variable or an auxiliary, or the first refusal of writing
+    pub(crate) written: Result<u16, Refusal>,
 }

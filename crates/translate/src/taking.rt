@@ -1,35 +1,30 @@
 // A line that was read is entered into the book of a run and written.
 ghost use Rattle.std.specs.Prelude.{◌≡◌, ◌+◌, ◌^◌, ◌<◌, ◌≤◌, MatchResult};
-ghost use Rattle.pb.specs.Lines.{line_in, working_of};
+ghost use Rattle.pb.specs.Lines.{line_in};
 ghost use Rattle.pb.specs.Tightened.{tightened};
 ghost use Rattle.schedule.specs.Held.{line_of};
 ghost use Rattle.schedule.specs.Reading.{offset_of_fault, line_size};
-ghost use Rattle.text.specs.Pages.{page_of};
-ghost use Rattle.translate.specs.Streaming.{fresh, written, Grew, GoesOn, EndsWith};
-ghost use Rattle.translate.specs.Translation.{write_form};
+ghost use Rattle.translate.specs.Streaming.{fresh, Added, GoesOn, EndsWith};
 ghost use Rattle.translate.specs.Entering.{Entered, NotEntered};
 
 use crate::run::Run;
-use direct::encode_fault::EncodeFault;
-use direct::encoder::encode;
+use crate::writing::write;
+use cnf::sheet::Sheet;
+use encode::encoder::Encoder;
 use fault::book::BookFault;
 use fault::file::{At, FileFault};
 use fault::line::LineFault;
-use fault::refusal::Refusal;
 use lines::normal::normal_form;
 use pb::variables::Variables;
 use pb::working::{Head, Weighted, WorkingLine};
 use schedule::line::LineRecord;
 use simplify::tightening::tighten;
-use text::sheet::TextSheet;
 
 // The book of a run holds so many lines, and so many terms of theirs in all.
-// Kept: here too, since whoever changes them changes what this crate promises.
 const LINES: usize = 24;
 
 const TERMS: usize = 512;
 
-// Kept: these, `tighten_in` and `enter` beside those of `translate_sheets`, where they would be public with a condition.
 // A term's fault stands at the record of that term, any other at the line's first record.
 fn fault_offset(at: usize, fault: LineFault) -> usize
     requires { offset_of_fault at fault < 2 ^ 64 }
@@ -51,22 +46,6 @@ fn tighten_in(line: Head, form: &mut [Weighted; 64]) -> Head
     tighten(line.sense, line.bound, &mut form[0..count])
 }
 
-// Writes the line of this number, or leaves the sheet.
-// Kept: beside that of `translate_sheets`, since the sheet is no `cnf::Sheet`.
-fn write(number: usize, line: WorkingLine<'_>, sheet: &mut TextSheet<'_>) -> Result<(), Refusal>
-    ensures grew { Grew (page_of sheet.old) (page_of sheet.new) }
-    ensures comes { write_form number (page_of sheet.old) (working_of line.entry) ≡ written result (page_of sheet.new) }
-{
-    match encode(line, sheet) {
-        Ok(_) => Ok(()),
-        Err(EncodeFault::Reach) => Err(Refusal::from(At {
-            offset: 0,
-            fault: BookFault::Reach(number),
-        })),
-        Err(EncodeFault::Sheet(fault)) => Err(Refusal::from(fault)),
-    }
-}
-
 impl Run {
     // A run before its first line.
     pub(crate) fn new(variables: Variables) -> Run
@@ -76,7 +55,7 @@ impl Run {
             variables,
             held: 0,
             free: TERMS,
-            written: Ok(()),
+            written: Ok(variables.count()),
         }
     }
 
@@ -107,16 +86,17 @@ impl Run {
     }
 
     // Enters the line and, unless writing was refused before, writes it.
-    pub(crate) fn take_line(
+    pub(crate) fn take_line<E: Encoder, S: Sheet>(
         &mut self,
+        encoder: &E,
         line: &LineRecord,
-        sheet: &mut TextSheet<'_>,
+        sheet: &mut S,
     ) -> Result<(), FileFault>
         requires { line.now.offset + line_size (line_of line.now) < 2 ^ 64 }
-        ensures grew { Grew (page_of sheet.old) (page_of sheet.new) }
+        ensures added { Added S.Sheet sheet.old sheet.new }
         ensures cases { MatchResult result
-            (λ _. GoesOn self.old (page_of sheet.old) self.new (page_of sheet.new) line.now.offset (line_of line.now))
-            (λ x. EndsWith self.old (page_of sheet.old) x line.now.offset (line_of line.now)) }
+            (λ _. GoesOn (E.Encoder.meaning encoder.now) (S.Sheet.fits sheet.old) self.old (S.Sheet.held sheet.old) self.new (S.Sheet.held sheet.new) line.now.offset (line_of line.now))
+            (λ x. EndsWith (E.Encoder.meaning encoder.now) (S.Sheet.fits sheet.old) self.old (S.Sheet.held sheet.old) x line.now.offset (line_of line.now)) }
     {
         // Kept: a table and a head, since the normal form is written to memory that is lent, and is tightened there in place.
         let mut form = [Weighted {
@@ -126,7 +106,7 @@ impl Run {
         let normal = self.enter(line, &mut form)?;
         self.held += 1;
         self.free -= line.terms().len();
-        if self.written.is_ok() {
+        if let Ok(taken) = self.written {
             let Head {
                 sense,
                 bound,
@@ -138,7 +118,7 @@ impl Run {
                 bound,
                 terms,
             };
-            self.written = write(self.held, working, sheet);
+            self.written = write(encoder, self.held, taken, working, sheet);
         }
         Ok(())
     }

@@ -52,9 +52,7 @@ impl<'a, L: Lay> Sheet for LaidSheet<'a, L> {
 
     ghost fits = { λ s. fits_in L.layout s.memory.now };
 
-    ghost ok = { λ _. Unit {0} };
-
-    ghost sound = { λ s _. front_room L.layout s.memory.now s.used s.front.shows.shown };
+    ghost sound = { λ s. front_room L.layout s.memory.now s.used s.front.shows.shown };
 
     ghost begins = { λ s. room_begins L.layout (length s.memory.now) };
 
@@ -76,7 +74,6 @@ impl<'a, L: Lay> Sheet for LaidSheet<'a, L> {
     fn give(&mut self, clause: &[i32]) -> Result<usize, SheetFault>
         ensures rule { fits_in L.layout self.new.memory.now ≡ fits_in L.layout self.old.memory.now }
         ensures same { self.new.memory.ghost_name ≡ self.old.memory.ghost_name }
-        ensures kept { Unit {0} → Unit {0} }
         ensures answer { result ≡ give_answer (fits_in L.layout self.old.memory.now) (held_in L.layout self.old.memory.now self.old.used) (of_literals clause.now) }
         ensures after { held_in L.layout self.new.memory.now self.new.used ≡ give_held (fits_in L.layout self.old.memory.now) (held_in L.layout self.old.memory.now self.old.used) (of_literals clause.now) }
         ensures memory { self.new.memory.now ≡ given_in L.layout self.old.memory.now self.old.used (of_literals clause.now) (is_ok result) }
@@ -90,7 +87,6 @@ impl<'a, L: Lay> Sheet for LaidSheet<'a, L> {
     fn cut(&mut self, keep: usize) -> Result<(), SheetFault>
         ensures rule { fits_in L.layout self.new.memory.now ≡ fits_in L.layout self.old.memory.now }
         ensures same { self.new.memory.ghost_name ≡ self.old.memory.ghost_name }
-        ensures kept { Unit {0} → Unit {0} }
         ensures answer { result ≡ cut_answer (held_in L.layout self.old.memory.now self.old.used) keep }
         ensures after { held_in L.layout self.new.memory.now self.new.used ≡ cut_held (held_in L.layout self.old.memory.now self.old.used) keep }
         ensures memory { self.new.memory.now ≡ self.old.memory.now }

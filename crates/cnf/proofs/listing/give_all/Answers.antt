@@ -23,10 +23,9 @@ returns-in-Ok g c =
       given = record {
         rule = p.rule;
         same = p.same;
-        kept = p.kept;
         answer = t.0;
         after = p.after ∙ t.1;
-        whole = λ ok formed. t.0 ∙ all_whole fits held list (g.S.Sheet.begins s) (g.S.Sheet.sound s ok) formed;
+        whole = λ formed. t.0 ∙ all_whole fits held list (g.S.Sheet.begins s) (g.S.Sheet.sound s) formed;
       };
       meaning = satisfaction;
     }
@@ -45,10 +44,9 @@ returns-in-Err g c =
       given = record {
         rule = c.cut.ensures.rule ∙ p.rule;
         same = c.cut.ensures.same ∙ p.same;
-        kept = λ ok. c.cut.ensures.kept (p.kept ok);
         answer = answer;
         after = back ∙ t.1;
-        whole = λ ok formed. answer ∙ all_whole fits held list (g.S.Sheet.begins s) (g.S.Sheet.sound s ok) formed;
+        whole = λ formed. answer ∙ all_whole fits held list (g.S.Sheet.begins s) (g.S.Sheet.sound s) formed;
       };
       meaning = satisfaction;
     }

@@ -6,4 +6,6 @@ use Rattle.cnf.proofs.listing.ClausesListing.pour.Given as goal
 
 abbrev pub invariant-loop-clause : goal.invariant-loop-clause
 invariant-loop-clause g l =
-    (g.S.Sheet.fits l.sheet ≡ g.S.Sheet.fits l.initial.sheet) × (g.S.Sheet.loan l.sheet ≡ g.S.Sheet.loan l.initial.sheet) × (g.S.Sheet.ok l.initial.sheet → g.S.Sheet.ok l.sheet) × Left (g.S.Sheet.fits l.initial.sheet) (g.S.Sheet.held l.initial.sheet) (map (λ c. of_literals c.now) l.self.0.now) (g.S.Sheet.held l.sheet) (map (λ c. of_literals c.now) (drop l.clause-index l.self.0.now))
+    (g.S.Sheet.fits l.sheet ≡ g.S.Sheet.fits l.initial.sheet)
+    × (g.S.Sheet.loan l.sheet ≡ g.S.Sheet.loan l.initial.sheet)
+    × Left (g.S.Sheet.fits l.initial.sheet) (g.S.Sheet.held l.initial.sheet) (map (λ c. of_literals c.now) l.self.0.now) (g.S.Sheet.held l.sheet) (map (λ c. of_literals c.now) (drop l.clause-index l.self.0.now))

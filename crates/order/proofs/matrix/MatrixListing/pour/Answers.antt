@@ -8,7 +8,7 @@ returns-in_err-give_row g c =
     let m = c.args.self.now in
     let left = way_same (rows_more m.first m.columns c.loop-i.i m.line.terms.now _ _ c.loop-i-test.true) c.loop-i.invariant in
     let p = way_exits {r = c.from_residual.result} _ _ _ left c.in_err-give_row.ensures c.from_residual.ensures.1 in
-    record { rule = p.rule; same = p.same; kept = p.kept; answer = p.answer; after = p.after }
+    record { rule = p.rule; same = p.same; answer = p.answer; after = p.after }
 
 pub loop-i-preserved : goal.loop-i-preserved
 loop-i-preserved g c =

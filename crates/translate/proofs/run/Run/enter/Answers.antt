@@ -2,7 +2,7 @@
 use Rattle.std.proofs.Common.{sym, ap, ◌∙◌, arith}
 use Rattle.pb.specs.Checks.{line_check}
 use Rattle.schedule.specs.Held.{line_of}
-use Rattle.translate_sheets.proofs.Offsets.{fault_within}
+use Rattle.translate.proofs.Offsets.{fault_within}
 use Rattle.translate.proofs.run.Run.enter.Goals as goal
 
 pub map_err-requires : goal.map_err-requires

@@ -1,4 +1,0 @@
-pub mod Rows
-pub mod Puts
-pub mod Calls
-pub mod Pages

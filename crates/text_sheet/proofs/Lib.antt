@@ -1,2 +1,0 @@
-mod Lengths
-mod Words

@@ -1,5 +1,0 @@
-pub mod Lines
-mod Steps
-pub mod Offsets
-pub mod Forms
-mod Whole

@@ -1,4 +1,0 @@
-pub mod Translation
-pub mod Streaming
-pub mod Entering
-pub mod Whole
