@@ -13,7 +13,8 @@ import random
 import struct
 import sys
 
-INPUT, LINES, TERMS, TEXT, CLAUSES, REACH = 8192, 24, 512, 24576, 4000, 12
+INPUT, LINES, TERMS, TEXT, CLAUSES = 8192, 24, 512, 24576, 4000
+DIRECT, ORDER, NUMBERS = 12, 16384, 60000
 
 
 class Refused(Exception):
@@ -144,20 +145,61 @@ def direct(form):
     return clauses
 
 
+def order(form, first):
+    """The clauses of a counter matrix whose entries are numbered from `first`, row by row."""
+    exact, bound, terms = form
+    columns = bound + 1 if exact else bound
+
+    def entry(i, j):
+        if j <= 0:
+            return True
+        return first + (i - 1) * columns + j - 1 if i else False
+
+    def negated(part):
+        return not part if isinstance(part, bool) else -part
+
+    clauses = []
+
+    def give(*parts):
+        if not any(p is True for p in parts):
+            clauses.append([p for p in parts if p is not False])
+
+    for i, (weight, literal) in enumerate(terms, 1):
+        for j in range(1, columns + 1):
+            give(negated(entry(i - 1, j)), entry(i, j))
+            give(-literal, negated(entry(i - 1, j - weight)), entry(i, j))
+            give(literal, entry(i - 1, j), negated(entry(i, j)))
+            give(entry(i - 1, j - weight), negated(entry(i, j)))
+    give(entry(len(terms), bound))
+    if exact:
+        give(negated(entry(len(terms), bound + 1)))
+    return clauses
+
+
+def write(form, taken, number):
+    """The line's clauses, and how many numbers are taken then."""
+    exact, bound, terms = form
+    if len(terms) <= DIRECT:
+        return direct(form), taken
+    takes = len(terms) * (bound + 1 if exact else bound)
+    if takes > ORDER:
+        refuse(10, "book", number, 0)
+    if taken + takes > NUMBERS:
+        refuse(11, "book", number, 0)
+    return order(form, taken + 1), taken + takes
+
+
 def translate(data):
     try:
         variables, lines = read(data[:INPUT])
-        text, count = "", 0
+        text, count, taken = "", 0, variables
         for number, line in enumerate(lines, 1):
-            form = tighten(normal(variables, line))
-            if len(form[2]) > REACH:
-                refuse(10, "book", number, 0)
-            clauses = direct(form)
+            clauses, taken = write(tighten(normal(variables, line)), taken, number)
             rows = "".join("".join(f"{l} " for l in c) + "0\n" for c in clauses)
             if len(text) + len(rows) > TEXT or count + len(clauses) > CLAUSES:
                 refuse(15, "sheet", count, 0)
             text, count = text + rows, count + len(clauses)
-        return f"p cnf {variables} {count}\n{text}"
+        return f"p cnf {taken} {count}\n{text}"
     except Refused as r:
         return str(r)
 
@@ -238,6 +280,31 @@ def forms():
         yield f"{k} terms, then a fault of the file", ch(64) + ln(1, 1, [(1, v) for v in range(1, k + 1)]) + b"XX"
     yield "13 terms of which one cancels", ch(64) + ln(1, 2, [(1, v) for v in range(1, 14)] + [(1, -13)]) + EN
     yield "the second of two lines has 13 terms", ch(64) + ln(1, 1, [(1, 1)]) + ln(1, 1, [(1, v) for v in range(1, 14)]) + EN
+
+
+def matrices():
+    """Lines of more than 12 terms, which take auxiliaries."""
+    thirteen = [(1 + v % 3, v if v % 4 else -v) for v in range(1, 14)]
+    for r in (1, 3):
+        for b in (1, 2, 7, 26, 27):
+            yield f"13 terms, relation {r}, bound {b}", ch(13) + ln(r, b, thirteen) + EN
+    for r, b in ((2, 20), (4, 3), (5, 22)):
+        yield f"13 terms, relation {r}", ch(20) + ln(r, b, thirteen) + EN
+    ones = [(1, v) for v in range(1, 65)]
+    heavy = [(1 + v % 2 * 9_999, v) for v in range(1, 14)]
+    yield "13 terms exactly 0", ch(13) + ln(3, 0, thirteen) + EN
+    yield "13 heavy terms, one column", ch(13) + ln(1, 1, heavy) + EN
+    yield "two lines of 13 terms number on", ch(13) + ln(1, 3, thirteen) + ln(3, 2, thirteen) + EN
+    yield "a line without auxiliaries between two with", ch(13) + ln(1, 3, thirteen) + ln(1, 1, [(1, 1)]) + ln(1, 2, thirteen) + EN
+    odd = [(3, v) for v in range(1, 64)] + [(1, 64)]
+    for b in (128, 130, 131, 191):
+        yield f"64 terms of 3 but one, at least {b}", ch(64) + ln(1, b, odd) + EN
+    wide = [(5, v) for v in range(1, 64)] + [(1, 64)]
+    for r, b in ((1, 256), (1, 257), (3, 254), (3, 255), (3, 256)):
+        yield f"64 terms in or out of reach, relation {r}, bound {b}", ch(64) + ln(r, b, wide) + EN
+    yield "a fault of the file after a line out of reach", ch(64) + ln(1, 257, wide) + b"XX"
+    yield "a line in reach whose clauses do not fit, after one that does", ch(64) + ln(1, 2, thirteen) + ln(1, 256, wide) + EN
+    yield "at least 3 of 64", ch(64) + ln(1, 3, ones) + EN
 
 
 def limits():
@@ -322,8 +389,21 @@ def random_cases():
         yield f"damaged file {i}", bytes(data)
 
 
+def random_matrices():
+    """Files of one or two lines of 11 to 15 terms, light enough to be written."""
+    rng = random.Random(21)
+    for i in range(40):
+        n = rng.randint(11, 20)
+        out = ch(n)
+        for _ in range(rng.randint(1, 2)):
+            names = rng.sample(range(1, n + 1), rng.randint(11, min(n, 15)))
+            terms = [(rng.choice((1, 1, 2)), rng.choice((v, -v))) for v in names]
+            out += ln(rng.choice((1, 3, 4)), rng.randint(-2, 4), terms)
+        yield f"random matrices {i}", out + EN
+
+
 def cases():
-    for group in (cut_and_marks, ranges, forms, limits, exact_room, two_faults, random_cases):
+    for group in (cut_and_marks, ranges, forms, matrices, limits, exact_room, two_faults, random_cases, random_matrices):
         yield from group()
 
 

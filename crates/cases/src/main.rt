@@ -1,8 +1,7 @@
-// Runs every schedule file of standard input through the translator with the direct encoder, and prints what
-// comes of each below its name. A case is a name and a file, each after its length in two bytes.
+// Runs every schedule file of standard input through the translator, and prints what comes of each below its name. A case
+// is a name and a file, each after its length in two bytes.
 #![tactic(auto)]
 
-use direct_encoder::encoder::Direct;
 use output::print_cases;
 use std::io;
 use std::io::Read;
@@ -11,5 +10,5 @@ use std::io::Read;
 fn main(rt: HostRuntime) -> io::Result<()> {
     let mut cases = Vec::new(rt.alloc());
     let _ = rt.stdin().read_to_end(&mut cases)?;
-    print_cases(&rt, &Direct::new(), cases.as_slice())
+    print_cases(&rt, cases.as_slice())
 }

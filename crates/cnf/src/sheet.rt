@@ -1,6 +1,6 @@
 // What a sheet of clauses is: a list of clauses, oldest first, that grows at its end and can be cut.
 ghost use Rattle.std.specs.Borrow.{GName};
-ghost use Rattle.std.specs.Prelude.{◌≡◌, Bool, true, List, length};
+ghost use Rattle.std.specs.Prelude.{◌≡◌, true, List, length};
 ghost use Rattle.cnf.specs.Clauses.{Clause, of_literals, literal_at};
 ghost use Rattle.cnf.specs.Calls.{Rule, Begins, give_answer, give_held, cut_answer, cut_held};
 
@@ -11,7 +11,7 @@ pub trait Sheet {
     ghost held: { Self → List Clause };
 
     // Which lists of clauses fit the sheet: a rule that no call changes.
-    ghost fits: { Self → List Clause → Bool };
+    ghost fits: { Self → Rule };
 
     // What it holds fits.
     ghost sound: { (s : Self) → fits s (held s) ≡ true };

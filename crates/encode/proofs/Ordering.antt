@@ -7,8 +7,7 @@ use Rattle.std.proofs.lemmas.Bool.Decides.{Decides-at, Decides-like}
 use Rattle.pb.specs.declared.working.Sense.{Sense}
 use Rattle.pb.specs.declared.working.Weighted.{Weighted}
 use Rattle.pb.specs.Lines.{Working}
-use Rattle.pb.specs.Meaning.{Assignment}
-use Rattle.pb.specs.Meaning.{weighed, met, reaches}
+use Rattle.pb.specs.Meaning.{Assignment, weighed, met, reaches}
 use Rattle.cnf.specs.Clauses.{satisfies_all}
 use Rattle.cnf.proofs.Satisfying.{satisfies_append}
 use Rattle.encode.specs.Law.{Lawful, InReach}

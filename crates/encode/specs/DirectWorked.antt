@@ -1,14 +1,15 @@
 -- Worked cases of the direct encoder: the whole list of small lines, and which lines are in reach.
 use Rattle.std.specs.Prelude.{◌≡◌, ℕ, true, false, [], ◌∷◌, replicate, pos, negsuc}
 use Rattle.cnf.specs.Clauses.{of_literals}
+use Rattle.pb.specs.declared.working.Sense.{Sense}
 use Rattle.pb.specs.declared.working.Sense.TheVariants.{AtLeast, Exactly}
 use Rattle.pb.specs.Lines.{Working, empty_line, impossible_line}
 use Rattle.pb.specs.Worked.{at}
 use Rattle.encode.specs.Direct.{direct_list, direct_reach}
 
--- a line of so many terms
-abbrev pub of_terms : ℕ → Working
-of_terms k = record { sense = AtLeast; bound = 1; terms = replicate k (at 1 (pos 1)) }
+-- a line of so many terms of weight 1
+abbrev pub of_ones : Sense → ℕ → ℕ → Working
+of_ones sense n k = record { sense = sense; bound = k; terms = replicate n (at 1 (pos 1)) }
 
 pub record DirectWorkedCases : Type 0 where
   -- 1·1 + 2·2 + 3·3 at least 4: (1 2), (3)
@@ -16,6 +17,12 @@ pub record DirectWorkedCases : Type 0 where
   -- no terms, at least 1: the empty clause; and at least 0: none
   pub never : direct_list impossible_line 1 ≡ of_literals [] ∷ []
   pub always : direct_list empty_line 1 ≡ []
+  -- and exactly 0: none; exactly 1: the empty clause
+  pub no_terms_exactly_zero : direct_list (of_ones Exactly 0 0) 1 ≡ []
+  pub no_terms_exactly_one : direct_list (of_ones Exactly 0 1) 1 ≡ of_literals [] ∷ []
+  -- 1·1 + 2·2 at least 0: none; and at least 4, above the sum: the empty clause
+  pub at_least_zero : direct_list (record { sense = AtLeast; bound = 0; terms = at 1 (pos 1) ∷ at 2 (pos 2) ∷ [] }) 3 ≡ []
+  pub at_least_above : direct_list (record { sense = AtLeast; bound = 4; terms = at 1 (pos 1) ∷ at 2 (pos 2) ∷ [] }) 3 ≡ of_literals [] ∷ []
   -- 1·1 + 2·2 exactly 0: (-1), (-2)
   pub none_counts : direct_list (record { sense = Exactly; bound = 0; terms = at 1 (pos 1) ∷ at 2 (pos 2) ∷ [] }) 3 ≡ of_literals (negsuc 0 ∷ []) ∷ of_literals (negsuc 1 ∷ []) ∷ []
   -- 1·1 + 2·2 exactly 3: (1), (2)
@@ -25,5 +32,5 @@ pub record DirectWorkedCases : Type 0 where
   -- 1·1 exactly 2, above the sum: the empty clause, and nothing of the complements
   pub above_sum : direct_list (record { sense = Exactly; bound = 2; terms = at 1 (pos 1) ∷ [] }) 2 ≡ of_literals [] ∷ []
   -- twelve terms are in reach, and thirteen are not
-  pub twelve : direct_reach (of_terms 12) ≡ true
-  pub thirteen : direct_reach (of_terms 13) ≡ false
+  pub most : direct_reach (of_ones AtLeast 12 1) ≡ true
+  pub one_more : direct_reach (of_ones AtLeast 13 1) ≡ false

@@ -2,8 +2,7 @@
 use Rattle.std.specs.Prelude.{◌≡◌, ℕ, ◌+◌, ◌<◌, ◌≤◌, Bool, true, ◌&&◌, ◌||◌, ◌↔◌, List, nat_le, nat_lt}
 use Rattle.cnf.specs.Clauses.{Clause, satisfies_all, all_well_formed, names_within}
 use Rattle.pb.specs.Lines.{Working}
-use Rattle.pb.specs.Meaning.{Assignment}
-use Rattle.pb.specs.Meaning.{met}
+use Rattle.pb.specs.Meaning.{Assignment, met}
 use Rattle.pb.specs.Proper.{Proper}
 
 -- which lines are in reach; how many auxiliaries a line takes; its clauses, where its auxiliaries are numbered on from
@@ -18,7 +17,8 @@ pub record Encoding : Type 0 where
 abbrev pub named : ℕ → ℕ → ℕ → ℕ → Bool
 named n first k v = (nat_lt 0 v && nat_le v n) || (nat_le first v && nat_lt v (first + k))
 
--- a proper line in reach on the variables 1 to n, whose auxiliaries would all lie above these and none above 60,000
+-- a proper line in reach on the variables 1 to n, whose auxiliaries, numbered on from `first`, would all lie above these and
+-- none above 60,000
 pub record InReach (e : Encoding) (n first : ℕ) (w : Working) : Type 0 where
   pub proper : Proper n w
   pub reached : e.reach w ≡ true
@@ -27,7 +27,7 @@ pub record InReach (e : Encoding) (n first : ℕ) (w : Working) : Type 0 where
 
 -- the law: the list names only these variables and auxiliaries, its clauses are well-formed, and an assignment v of
 -- both satisfies it exactly when it meets the line and gives every auxiliary its value, where a is any assignment
--- that agrees with v on the variables
+-- that agrees with v up to n, that is, on the variables (0 is none)
 pub record Lawful (e : Encoding) : Type 0 where
   pub names : (n first : ℕ) (w : Working) → InReach e n first w → names_within (named n first (e.takes w)) (e.clauses w first) ≡ true
   pub formed : (n first : ℕ) (w : Working) → InReach e n first w → all_well_formed (e.clauses w first) ≡ true

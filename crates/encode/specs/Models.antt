@@ -4,10 +4,10 @@ use Rattle.std.specs.Prelude.{◌≡◌, ℕ, ◌+◌, ◌<◌, ◌≤◌, true}
 use Rattle.cnf.specs.Clauses.{satisfies_all}
 use Rattle.encode.specs.Law.{Encoding, InReach}
 use Rattle.pb.specs.Lines.{Working}
-use Rattle.pb.specs.Meaning.{Assignment}
-use Rattle.pb.specs.Meaning.{met}
+use Rattle.pb.specs.Meaning.{Assignment, met}
 
--- an assignment of variables and auxiliaries that agrees with a on the variables 1 to n and satisfies the line's clauses
+-- an assignment of variables and auxiliaries that agrees with a up to n, that is, on the variables (0 is none), and satisfies
+-- the line's clauses
 pub record Model (e : Encoding) (n first : ℕ) (w : Working) (a v : Assignment) : Type 0 where
   pub agrees : (x : ℕ) → x ≤ n → v x ≡ a x
   pub satisfied : satisfies_all v (e.clauses w first) ≡ true

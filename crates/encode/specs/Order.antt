@@ -6,8 +6,7 @@ use Rattle.pb.specs.declared.working.Sense.{Sense}
 use Rattle.pb.specs.declared.working.Sense.TheVariants.{AtLeast, Exactly}
 use Rattle.pb.specs.declared.working.Weighted.{Weighted}
 use Rattle.pb.specs.Lines.{Working}
-use Rattle.pb.specs.Meaning.{Assignment}
-use Rattle.pb.specs.Meaning.{weighed}
+use Rattle.pb.specs.Meaning.{Assignment, weighed}
 
 -- a part of a clause: a literal, or one that always or never holds
 pub data Part : Type 0 where

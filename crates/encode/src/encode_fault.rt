@@ -4,7 +4,7 @@ ghost use Rattle.encode.specs.declared.encode_fault.EncodeFault.TheVariants.{She
 
 use fault::sheet::SheetFault;
 
-#[derive(Clone, Copy)]
+#[derive(Clone, Copy, PartialEq, Debug)]
 pub enum EncodeFault {
     // the line is out of the encoder's reach
     Reach,

@@ -1,7 +1,7 @@
 // Small lines, and what each encoder puts of them on real sheets.
 use choose::UpTo;
 use cnf::sheet::Sheet;
-use direct_encoder::encoder::Direct;
+use direct::encoder::Direct;
 use encode::encode_fault::EncodeFault;
 use encode::encoder::Encoder;
 use fault::sheet::SheetFault;
@@ -29,29 +29,21 @@ fn direct_names_the_least_sets(rt: HostRuntime) {
     let terms = [on(1, 1), on(2, 2), on(3, 3)];
     let mut bytes = [0; 64];
     let mut sheet = TextSheet::new(&mut bytes);
-    assert!(rt;
-        matches!(
-            Direct::new().encode(line(AtLeast, 4, &terms), 4, &mut sheet),
-            Ok(2)
-        )
+    assert_eq!(rt;
+        Direct::new().encode(line(AtLeast, 4, &terms), 4, &mut sheet),
+        Ok(2)
     );
-    assert!(rt;
-        matches!(
-            Direct::new().encode(line(Exactly, 4, &terms), 4, &mut sheet),
-            Ok(3)
-        )
+    assert_eq!(rt;
+        Direct::new().encode(line(Exactly, 4, &terms), 4, &mut sheet),
+        Ok(3)
     );
-    assert!(rt;
-        matches!(
-            Direct::new().encode(line(AtLeast, 0, &[]), 4, &mut sheet),
-            Ok(0)
-        )
+    assert_eq!(rt;
+        Direct::new().encode(line(AtLeast, 0, &[]), 4, &mut sheet),
+        Ok(0)
     );
-    assert!(rt;
-        matches!(
-            Direct::new().encode(line(AtLeast, 1, &[]), 4, &mut sheet),
-            Ok(1)
-        )
+    assert_eq!(rt;
+        Direct::new().encode(line(AtLeast, 1, &[]), 4, &mut sheet),
+        Ok(1)
     );
     assert_eq!(rt;
         finish(sheet).bytes(),
@@ -64,23 +56,17 @@ fn order_counts_in_a_matrix(rt: HostRuntime) {
     let terms = [on(2, 1), on(1, 2)];
     let mut bytes = [0; 256];
     let mut sheet = TextSheet::new(&mut bytes);
-    assert!(rt;
-        matches!(
-            Order::new().encode(line(AtLeast, 2, &terms), 3, &mut sheet),
-            Ok(12)
-        )
+    assert_eq!(rt;
+        Order::new().encode(line(AtLeast, 2, &terms), 3, &mut sheet),
+        Ok(12)
     );
-    assert!(rt;
-        matches!(
-            Order::new().encode(line(Exactly, 0, &terms), 7, &mut sheet),
-            Ok(6)
-        )
+    assert_eq!(rt;
+        Order::new().encode(line(Exactly, 0, &terms), 7, &mut sheet),
+        Ok(6)
     );
-    assert!(rt;
-        matches!(
-            Order::new().encode(line(AtLeast, 1, &[]), 9, &mut sheet),
-            Ok(1)
-        )
+    assert_eq!(rt;
+        Order::new().encode(line(AtLeast, 1, &[]), 9, &mut sheet),
+        Ok(1)
     );
     assert_eq!(rt;
         finish(sheet).bytes(),
@@ -91,27 +77,21 @@ fn order_counts_in_a_matrix(rt: HostRuntime) {
 #[test]
 fn reach_ends_where_it_should(rt: HostRuntime) {
     let terms = [on(1, 1); 65];
-    assert!(rt;
-        matches!(
-            Direct::new().reach(line(AtLeast, 1, &terms[0..12])),
-            Some(0)
-        )
+    assert_eq!(rt;
+        Direct::new().reach(line(AtLeast, 1, &terms[0..12])),
+        Some(0)
     );
-    assert!(rt; matches!(Direct::new().reach(line(AtLeast, 1, &terms[0..13])), None));
-    assert!(rt;
-        matches!(
-            Order::new().reach(line(AtLeast, 256, &terms[0..64])),
-            Some(16_384)
-        )
+    assert_eq!(rt; Direct::new().reach(line(AtLeast, 1, &terms[0..13])), None);
+    assert_eq!(rt;
+        Order::new().reach(line(AtLeast, 256, &terms[0..64])),
+        Some(16_384)
     );
-    assert!(rt;
-        matches!(
-            Order::new().reach(line(Exactly, 255, &terms[0..64])),
-            Some(16_384)
-        )
+    assert_eq!(rt;
+        Order::new().reach(line(Exactly, 255, &terms[0..64])),
+        Some(16_384)
     );
-    assert!(rt; matches!(Order::new().reach(line(Exactly, 256, &terms[0..64])), None));
-    assert!(rt; matches!(Order::new().reach(line(AtLeast, 257, &terms[0..64])), None));
+    assert_eq!(rt; Order::new().reach(line(Exactly, 256, &terms[0..64])), None);
+    assert_eq!(rt; Order::new().reach(line(AtLeast, 257, &terms[0..64])), None);
 }
 
 #[test]
@@ -119,25 +99,19 @@ fn a_refused_line_leaves_the_sheet(rt: HostRuntime) {
     let terms = [on(1, 1); 13];
     let mut cells = [0; 16];
     let mut sheet = FlatSheet::new(&mut cells);
-    assert!(rt; matches!(sheet.give(&[9]), Ok(1)));
-    assert!(rt;
-        matches!(
-            Direct::new().encode(line(AtLeast, 1, &terms), 2, &mut sheet),
-            Err(EncodeFault::Reach)
-        )
+    assert_eq!(rt; sheet.give(&[9]), Ok(1));
+    assert_eq!(rt;
+        Direct::new().encode(line(AtLeast, 1, &terms), 2, &mut sheet),
+        Err(EncodeFault::Reach)
     );
-    assert!(rt;
-        matches!(
-            Order::new().encode(line(AtLeast, 2, &terms), 2, &mut sheet),
-            Err(EncodeFault::Sheet(SheetFault::Full(1)))
-        )
+    assert_eq!(rt;
+        Order::new().encode(line(AtLeast, 2, &terms), 2, &mut sheet),
+        Err(EncodeFault::Sheet(SheetFault::Full(1)))
     );
     // the numbers run past 60,000
-    assert!(rt;
-        matches!(
-            Order::new().encode(line(AtLeast, 1, &terms), 60_000, &mut sheet),
-            Err(EncodeFault::Sheet(SheetFault::Malformed(1)))
-        )
+    assert_eq!(rt;
+        Order::new().encode(line(AtLeast, 1, &terms), 60_000, &mut sheet),
+        Err(EncodeFault::Sheet(SheetFault::Malformed(1)))
     );
     assert_eq!(rt; sheet.count(), 1);
     assert_eq!(rt; sheet.literal(1, 1), Some(9));
@@ -151,16 +125,14 @@ fn one_of_two_encoders_is_chosen_by_terms(rt: HostRuntime) {
         few: Direct::new(),
         many: Order::new(),
     };
-    assert!(rt; matches!(both.reach(line(AtLeast, 1, &terms[0..2])), Some(0)));
-    assert!(rt; matches!(both.reach(line(AtLeast, 1, &terms)), Some(3)));
+    assert_eq!(rt; both.reach(line(AtLeast, 1, &terms[0..2])), Some(0));
+    assert_eq!(rt; both.reach(line(AtLeast, 1, &terms)), Some(3));
     let mut bytes = [0; 128];
     let mut sheet = TextSheet::new(&mut bytes);
-    assert!(rt;
-        matches!(
-            both.encode(line(AtLeast, 1, &terms[0..2]), 4, &mut sheet),
-            Ok(1)
-        )
+    assert_eq!(rt;
+        both.encode(line(AtLeast, 1, &terms[0..2]), 4, &mut sheet),
+        Ok(1)
     );
-    assert!(rt; matches!(both.encode(line(AtLeast, 1, &terms), 4, &mut sheet), Ok(9)));
+    assert_eq!(rt; both.encode(line(AtLeast, 1, &terms), 4, &mut sheet), Ok(9));
     assert_eq!(rt; sheet.count(), 10);
 }

@@ -1,5 +1,5 @@
 // From a fault to what is printed of it.
-ghost use Rattle.std.specs.Prelude.{◌≡◌, ◌∷◌, ◌++◌, Some, codes, decimal};
+ghost use Rattle.std.specs.Prelude.{◌≡◌, Some};
 ghost use Rattle.fault.specs.declared.file.FileFault.TheVariants.{Line, Book};
 ghost use Rattle.fault.specs.Refusals.{line_refusal, book_refusal, sheet_refusal, placed, file_refusal, layer_name, refusal_text};
 

@@ -1,8 +1,6 @@
-// Reads a schedule file from standard input, and prints the clauses that the direct encoder makes of it,
-// or why it was refused.
+// Reads a schedule file from standard input, and prints its clauses, or why it was refused.
 #![tactic(auto)]
 
-use direct_encoder::encoder::Direct;
 use output::{INPUT, print};
 use std::io;
 use std::io::Read;
@@ -12,5 +10,5 @@ fn main(rt: HostRuntime) -> io::Result<()> {
     let mut file = Vec::new(rt.alloc());
     // more is not looked at
     let _ = rt.stdin().take(INPUT as u64).read_to_end(&mut file)?;
-    print(&rt, &Direct::new(), file.as_slice())
+    print(&rt, file.as_slice())
 }

@@ -2,7 +2,6 @@
 ghost use Rattle.std.specs.Prelude.{◌<◌, length, IfSome};
 
 use crate::print;
-use encode::encoder::Encoder;
 use std::io;
 use std::io::Write;
 
@@ -15,7 +14,7 @@ fn part(bytes: &[u8]) -> Option<(&[u8], &[u8])>
 }
 
 // Prints what comes of every case below its name.
-pub fn print_cases<E: Encoder>(rt: &HostRuntime, encoder: &E, cases: &[u8]) -> io::Result<()> {
+pub fn print_cases(rt: &HostRuntime, cases: &[u8]) -> io::Result<()> {
     let mut rest = cases;
     while let Some((name, after)) = part(rest) {
         let Some((file, others)) = part(after) else {
@@ -24,7 +23,7 @@ pub fn print_cases<E: Encoder>(rt: &HostRuntime, encoder: &E, cases: &[u8]) -> i
         rt.stdout().write_all(b"# ")?;
         rt.stdout().write_all(name)?;
         rt.stdout().write_all(b"\n")?;
-        print(rt, encoder, file)?;
+        print(rt, file)?;
         rest = others;
     }
     Ok(())

@@ -49,7 +49,7 @@ pub struct Head {
     pub count: usize,
 }
 
-// The two working lines without terms.
+// The two working lines without terms that have a name.
 impl Head {
     // At least 0 is met by every assignment.
     pub const EMPTY: Head = Head {

@@ -21,7 +21,7 @@ pub struct Reader<'a> {
     // Kept: the place beside the input: faults name it, and the contracts say where the reader stands.
     // where the next record begins
     at: usize,
-    ghost ok: { at ≤ length input.now },
+    ghost inside: { at ≤ length input.now },
 }
 
 impl<'a> Reader<'a> {

@@ -11,8 +11,8 @@ pub struct FinishedText<'a> {
 }
 
 impl<'a> FinishedText<'a> {
-    pub fn bytes(&self) -> &[u8]
-        ensures { result.now ≡ self.now.bytes.now }
+    pub fn bytes(self) -> &'a [u8]
+        ensures { result.now ≡ self.entry.bytes.now }
     {
         self.bytes
     }

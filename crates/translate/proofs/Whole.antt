@@ -2,20 +2,21 @@
 -- go on as a whole list or not at all.
 use Rattle.std.proofs.Common.{◌≡◌, ℕ, zero, suc, ◌+◌, ◌≤◌, Bool, true, false, cond, leb, ◌-◌, List, [], ◌∷◌, ◌++◌, length, drop, Some, None, Ok, Err, Option, Result, sym, refl, ap, ◌∙◌, subst, arith}
 use Rattle.std.proofs.lemmas.Bool.{leb-true}
+use Rattle.std.specs.Result.{is_ok}
 use Rattle.fault.specs.declared.file.FileFault.{FileFault}
 use Rattle.fault.specs.declared.line.LineFault.{LineFault}
 use Rattle.fault.specs.declared.line.LineFault.TheVariants.{Bound as BadBound, Terms as TooMany}
 use Rattle.fault.specs.declared.refusal.Refusal.{Refusal}
 use Rattle.fault.specs.declared.sheet.SheetFault.{SheetFault}
-use Rattle.cnf.specs.Calls.{Rule, Begins}
+use Rattle.cnf.specs.Calls.{Rule, Begins, whole_answer}
 use Rattle.cnf.specs.Clauses.{Clause}
 use Rattle.cnf.proofs.Pouring.{all_whole}
-use Rattle.encode.specs.Law.{Encoding, Lawful}
+use Rattle.encode.specs.Law.{Encoding, InReach, Lawful}
 use Rattle.pb.specs.Checks.{Sound, line_check}
 use Rattle.pb.specs.Lines.{Line}
 use Rattle.schedule.specs.Reading.{then, Schedule, read_variables, read_line, next_line, judged, line_or_fault, no_more_lines, more_lines, read_lines, line_size, read_schedule}
-use Rattle.translate.specs.Translation.{Progress, advanced, working_form, write_by, lines_written, write_schedule, or_refusal}
-use Rattle.translate.specs.Whole.{write_whole, lines_whole, schedule_whole, WholeLists}
+use Rattle.translate.specs.Translation.{Progress, advanced, working_form, write_with, write_by, lines_with, lines_written, schedule_with, write_schedule, or_refusal}
+use Rattle.translate.specs.Whole.{WholeLists}
 use Rattle.translate.proofs.Forms.{forms_keep}
 use Rattle.translate.proofs.Lines.{then_ok, read_check}
 
@@ -25,13 +26,13 @@ all_passed true true o h = (refl, refl, h)
 all_passed true false o h = cc
 all_passed false b o h = cc
 
-sound_by_check : (n : ℕ) (l : Line) → line_check n l ≡ None → Sound n l
+pub sound_by_check : (n : ℕ) (l : Line) → line_check n l ≡ None → Sound n l
 sound_by_check n l h =
     let p = all_passed _ _ _ h in
     record { bounded = leb-true _ _ p.0; few = leb-true _ _ p.1; fine = p.2 }
 
 -- every line that was read passed its check
-abbrev Checked : ℕ → List Line → Type 0
+abbrev pub Checked : ℕ → List Line → Type 0
 Checked n [] = Unit {0}
 Checked n (l ∷ ls) = (line_check n l ≡ None) × Checked n ls
 
@@ -86,37 +87,49 @@ then_same : {X Y E : Type 0} (r : Result X E) (f g : X → Result Y E) → ((x :
 then_same (Ok x) f g h = h x refl
 then_same (Err e) f g h = refl
 
-whole_ok : (near short fit : Bool) (p q : Progress) (k : ℕ) (many : ℕ) (ds : List Clause) (x y : Refusal) (full : SheetFault) → cond near (cond short (advanced p k ds (cond fit (Ok many) (Err full))) (Err x)) (Err y) ≡ Ok q → (fit ≡ true) × (q ≡ record { held = p.held ++ ds; numbers = p.numbers + k })
-whole_ok true true true p q k many ds x y full h = let e : q ≡ record { held = p.held ++ ds; numbers = p.numbers + k } = cc in (refl, e)
-whole_ok true true false p q k many ds x y full h = cc
-whole_ok true false fit p q k many ds x y full h = cc
-whole_ok false short fit p q k many ds x y full h = cc
+-- a line that was written was in reach, its auxiliaries were in range, and its clauses were added to those held
+pub written_ok : (near short : Bool) (p q : Progress) (k : ℕ) (ds : List Clause) (r : Result ℕ SheetFault) (x y : Refusal) → cond near (cond short (advanced p k ds r) (Err x)) (Err y) ≡ Ok q → (near ≡ true) × (short ≡ true) × (is_ok r ≡ true) × (q ≡ record { held = p.held ++ ds; numbers = p.numbers + k })
+written_ok true true p q k ds (Ok many) x y h = let e : q ≡ record { held = p.held ++ ds; numbers = p.numbers + k } = cc in (refl, refl, refl, e)
+written_ok true true p q k ds (Err f) x y h = cc
+written_ok true false p q k ds r x y h = cc
+written_ok false short p q k ds r x y h = cc
+
+-- and they fitted, where a list goes on as a whole
+fit_ok : (fit : Bool) (many : ℕ) (full : SheetFault) → is_ok (cond fit (Ok many) (Err full)) ≡ true → fit ≡ true
+fit_ok true many full h = refl
+fit_ok false many full h = h
+
+-- so its working form is one that the encoder's law speaks of
+pub in_reach : (e : Encoding) (n before : ℕ) (l : Line) → Sound n l → n ≤ before → e.reach (working_form n l) ≡ true → leb (before + e.takes (working_form n l)) 60000 ≡ true → InReach e n (suc before) (working_form n l)
+in_reach e n before l sound known near short =
+    let below = leb-true _ _ short in
+    record { proper = (forms_keep n l sound).0; reached = near; above = omega arith; below = omega arith }
 
 module _ (e : Encoding) (law : Lawful e) (fits : Rule) (begins : Begins fits) (n : ℕ) where
-  line_whole : (number : ℕ) (p : Progress) (l : Line) → Sound n l → fits p.held ≡ true → n ≤ p.numbers → write_by e fits number p (working_form n l) ≡ write_whole e fits number p (working_form n l)
+  line_whole : (number : ℕ) (p : Progress) (l : Line) → Sound n l → fits p.held ≡ true → n ≤ p.numbers → write_by e fits number p (working_form n l) ≡ write_with whole_answer e fits number p (working_form n l)
   line_whole number p l sound fit known =
       let w = working_form n l in
       let ds = e.clauses w (suc p.numbers) in
       cond_same (e.reach w) _ _ _ (λ near. cond_same (leb (p.numbers + e.takes w) 60000) _ _ _ (λ short.
-      let below = leb-true _ _ short in
-      let formed = law.formed n (suc p.numbers) w (record { proper = (forms_keep n l sound).0; reached = near; above = omega arith; below = omega arith }) in
+      let formed = law.formed n (suc p.numbers) w (in_reach e n p.numbers l sound known near short) in
       ap (advanced p (e.takes w) ds) (all_whole fits p.held ds begins fit formed)))
 
-  all_lines_whole : (ls : List Line) (number : ℕ) (p : Progress) → Checked n ls → fits p.held ≡ true → n ≤ p.numbers → lines_written e fits n number p ls ≡ lines_whole e fits n number p ls
+  all_lines_whole : (ls : List Line) (number : ℕ) (p : Progress) → Checked n ls → fits p.held ≡ true → n ≤ p.numbers → lines_written e fits n number p ls ≡ lines_with whole_answer e fits n number p ls
   all_lines_whole [] number p checked fit known = refl
   all_lines_whole (l ∷ ls) number p checked fit known =
       let w = working_form n l in
       ap (λ r. then r (λ q. lines_written e fits n (suc number) q ls)) (line_whole number p l (sound_by_check n l checked.0) fit known)
-      ∙ then_same (write_whole e fits number p w) _ _ (λ q is.
-      let after = whole_ok (e.reach w) (leb (p.numbers + e.takes w) 60000) (fits (p.held ++ e.clauses w (suc p.numbers))) p q (e.takes w) _ (e.clauses w (suc p.numbers)) _ _ _ is in
-      let more = ap (λ (r : Progress). r.numbers) after.1 in
-      all_lines_whole ls (suc number) q checked.1 (ap (λ (r : Progress). fits r.held) after.1 ∙ after.0) (omega arith))
+      ∙ then_same (write_with whole_answer e fits number p w) _ _ (λ q is.
+      let after = written_ok (e.reach w) (leb (p.numbers + e.takes w) 60000) p q (e.takes w) (e.clauses w (suc p.numbers)) _ _ _ is in
+      let fit = fit_ok (fits (p.held ++ e.clauses w (suc p.numbers))) _ _ after.2 in
+      let more = ap (λ (r : Progress). r.numbers) after.3 in
+      all_lines_whole ls (suc number) q checked.1 (ap (λ (r : Progress). fits r.held) after.3 ∙ fit) (omega arith))
 
-or_refusal_ok : {X : Type 0} (r : Result X FileFault) (x : X) → or_refusal r ≡ Ok x → r ≡ Ok x
+pub or_refusal_ok : {X : Type 0} (r : Result X FileFault) (x : X) → or_refusal r ≡ Ok x → r ≡ Ok x
 or_refusal_ok (Ok y) x h = let e : y ≡ x = cc in ap Ok e
 or_refusal_ok (Err e) x h = cc
 
-schedule_checked : (input : List ℕ) (s : Schedule) → read_schedule 24 512 input ≡ Ok s → Checked s.variables s.lines
+pub schedule_checked : (input : List ℕ) (s : Schedule) → read_schedule 24 512 input ≡ Ok s → Checked s.variables s.lines
 schedule_checked input s h =
     let p = then_ok (read_variables 0 input) _ s h in
     let q = then_ok (read_lines 24 512 p.0 0 4 (drop 4 input)) _ s p.2 in
@@ -125,5 +138,5 @@ schedule_checked input s h =
 
 pub whole_lists : (e : Encoding) (fits : Rule) (cs : List Clause) (input : List ℕ) → Lawful e → Begins fits → fits cs ≡ true → WholeLists e fits input cs
 whole_lists e fits cs input law begins fit =
-    then_same (or_refusal (read_schedule 24 512 input)) (write_schedule e fits cs) (schedule_whole e fits cs) (λ s is.
+    then_same (or_refusal (read_schedule 24 512 input)) (write_schedule e fits cs) (schedule_with whole_answer e fits cs) (λ s is.
     all_lines_whole e law fits begins s.variables s.lines 1 (record { held = cs; numbers = s.variables }) (schedule_checked input s (or_refusal_ok _ s is)) fit (omega arith))

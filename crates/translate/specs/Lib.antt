@@ -2,3 +2,4 @@ pub mod Translation
 pub mod Streaming
 pub mod Entering
 pub mod Whole
+pub mod Solutions

@@ -14,8 +14,7 @@ use Rattle.encode.specs.Law.{Encoding}
 use Rattle.encode.specs.Order.{order_encoding}
 use Rattle.pb.specs.Checks.{Sound}
 use Rattle.pb.specs.Lines.{Line, Working}
-use Rattle.pb.specs.Meaning.{Assignment}
-use Rattle.pb.specs.Meaning.{meets, met}
+use Rattle.pb.specs.Meaning.{Assignment, meets, met}
 use Rattle.pb.specs.Normal.{normal}
 use Rattle.pb.specs.Proper.{Proper}
 use Rattle.pb.specs.Tightened.{tightened}
@@ -41,23 +40,37 @@ abbrev pub advanced : Progress → ℕ → List Clause → Result ℕ SheetFault
 advanced p takes ds (Ok many) = Ok (record { held = p.held ++ ds; numbers = p.numbers + takes })
 advanced p takes ds (Err e) = Err (sheet_refusal e)
 
--- a line of this number written in its working form
-abbrev pub write_by : Encoding → Rule → ℕ → Progress → Working → Result Progress Refusal
-write_by e fits number p w =
+-- what a sheet of some rule answers that is given a list of clauses after those that it holds
+abbrev pub Giving : Type 0
+Giving = Rule → List Clause → List Clause → Result ℕ SheetFault
+
+-- a line of this number written in its working form, where a sheet answers like this
+abbrev pub write_with : Giving → Encoding → Rule → ℕ → Progress → Working → Result Progress Refusal
+write_with give e fits number p w =
     cond (e.reach w)
     (cond (nat_le (p.numbers + e.takes w) 60000)
-    (advanced p (e.takes w) (e.clauses w (suc p.numbers)) (all_answer fits p.held (e.clauses w (suc p.numbers))))
+    (advanced p (e.takes w) (e.clauses w (suc p.numbers)) (give fits p.held (e.clauses w (suc p.numbers))))
     (Err (book_refusal (Auxiliary number) 0)))
     (Err (book_refusal (Reach number) 0))
 
 -- lines of a job of n variables, of which the first has this number, written one after the other by an encoder of this
 -- meaning
+abbrev pub lines_with : Giving → Encoding → Rule → ℕ → ℕ → Progress → List Line → Result Progress Refusal
+lines_with give e fits n number p [] = Ok p
+lines_with give e fits n number p (l ∷ ls) = then (write_with give e fits number p (working_form n l)) (λ q. lines_with give e fits n (suc number) q ls)
+
+abbrev pub schedule_with : Giving → Encoding → Rule → List Clause → Schedule → Result Progress Refusal
+schedule_with give e fits cs s = lines_with give e fits s.variables 1 (record { held = cs; numbers = s.variables }) s.lines
+
+-- clause by clause, as the program gives them
+abbrev pub write_by : Encoding → Rule → ℕ → Progress → Working → Result Progress Refusal
+write_by = write_with all_answer
+
 abbrev pub lines_written : Encoding → Rule → ℕ → ℕ → Progress → List Line → Result Progress Refusal
-lines_written e fits n number p [] = Ok p
-lines_written e fits n number p (l ∷ ls) = then (write_by e fits number p (working_form n l)) (λ q. lines_written e fits n (suc number) q ls)
+lines_written = lines_with all_answer
 
 abbrev pub write_schedule : Encoding → Rule → List Clause → Schedule → Result Progress Refusal
-write_schedule e fits cs s = lines_written e fits s.variables 1 (record { held = cs; numbers = s.variables }) s.lines
+write_schedule = schedule_with all_answer
 
 abbrev pub or_refusal : {X : Type 0} → Result X FileFault → Result X Refusal
 or_refusal (Ok x) = Ok x
@@ -67,7 +80,8 @@ or_refusal (Err e) = Err (file_refusal e)
 abbrev pub translation : Encoding → Rule → List Clause → List ℕ → Result Progress Refusal
 translation e fits cs input = then (or_refusal (read_schedule 24 512 input)) (write_schedule e fits cs)
 
--- the file was translated: the sheet that held cs holds ds, and the header's two numbers are true
+-- the file was translated: the sheet that held cs holds ds, and the header has the highest number that the file takes and how
+-- many clauses the sheet holds then
 pub record Done (e : Encoding) (fits : Rule) (input : List ℕ) (cs ds : List Clause) (h : Header) : Type 0 where
   pub written : translation e fits cs input ≡ Ok (record { held = ds; numbers = h.variables })
   pub clauses : h.clauses ≡ length ds

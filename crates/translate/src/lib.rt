@@ -1,17 +1,18 @@
 // From the bytes of a schedule file to clauses.
 #![tactic(auto)]
 
-ghost use Rattle.std.specs.Prelude.{◌≡◌, Err, MatchResult};
+ghost use Rattle.std.specs.Prelude.{◌≡◌, Err, MatchResult, IfOk};
 ghost use Rattle.encode.specs.Models.{ModelsExtend};
 ghost use Rattle.cnf.specs.Sheets.{Kept};
 ghost use Rattle.schedule.specs.Place.{rest_of};
 ghost use Rattle.translate.specs.Translation.{encoding, translation, Done, Undone, OfSchedules, FormsKeep};
 ghost use Rattle.translate.specs.Streaming.{fresh, progress, coming, Added};
 ghost use Rattle.translate.specs.Whole.{WholeLists};
+ghost use Rattle.translate.specs.Solutions.{Meant};
 
 use choose::UpTo;
 use cnf::sheet::Sheet;
-use direct_encoder::encoder::Direct;
+use direct::encoder::{Direct, MOST_TERMS};
 use encode::encoder::Encoder;
 use fault::refusal::Refusal;
 use header::Header;
@@ -79,6 +80,7 @@ pub fn translate_by<E: Encoder, S: Sheet>(
     ensures forms { FormsKeep }
     ensures models { ModelsExtend (E.Encoder.meaning encoder.now) }
     ensures whole { WholeLists (E.Encoder.meaning encoder.now) (S.Sheet.fits sheet.old) input.now (S.Sheet.held sheet.old) }
+    ensures means { IfOk result (λ h. Meant input.now (S.Sheet.held sheet.old) (S.Sheet.held sheet.new) h) }
 {
     let before = sheet.count();
     let outcome = write_file(encoder, input, sheet);
@@ -95,7 +97,7 @@ pub fn by_terms() -> UpTo<Direct, Order>
     ensures meaning { ⟦<UpTo<Direct, Order> as Encoder>⟧.meaning result ≡ encoding }
 {
     UpTo {
-        most: 12,
+        most: MOST_TERMS,
         few: Direct::new(),
         many: Order::new(),
     }
@@ -111,6 +113,7 @@ pub fn translate<S: Sheet>(input: &[u8], sheet: &mut S) -> Result<Header, Refusa
     ensures forms { FormsKeep }
     ensures models { ModelsExtend encoding }
     ensures whole { WholeLists encoding (S.Sheet.fits sheet.old) input.now (S.Sheet.held sheet.old) }
+    ensures means { IfOk result (λ h. Meant input.now (S.Sheet.held sheet.old) (S.Sheet.held sheet.new) h) }
 {
     translate_by(&by_terms(), input, sheet)
 }

@@ -1,5 +1,5 @@
 -- A well-formed clause has few literals, and each is short.
-use Rattle.std.proofs.Common.{◌≡◌, ◌<◌, ◌+◌, ◌^◌, length, ap, arith}
+use Rattle.std.proofs.Common.{◌<◌, ◌+◌, ◌^◌, length, ap, arith}
 use Rattle.std.specs.Fmt.{signed_decimal}
 use Rattle.std.specs.List.{sum_by}
 use Rattle.cnf.specs.Clauses.{of_literals}
