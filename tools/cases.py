@@ -3,7 +3,8 @@
 
 It follows docs/ and shares no code with the crates. `python3 tools/cases.py crates/cases`
 writes crates/cases/stdin, the schedule files of all cases, and crates/cases/stdout, what this
-translator makes of them. `python3 tools/cases.py translate < FILE` translates one file.
+translator makes of them. `python3 tools/cases.py translate < FILE` translates one file, and
+`python3 tools/cases.py sizes` holds the sizes that docs/encoders.md gives against this translator's lists.
 
 A case in stdin: the name's length (2 bytes, high byte first), the name, the file's length (2 bytes),
 the file.
@@ -407,9 +408,28 @@ def cases():
         yield from group()
 
 
+def sizes():
+    """Holds the numbers of clauses that docs/encoders.md gives against the lists made here."""
+    rng = random.Random(5)
+    for _ in range(3000):
+        weights = [rng.randint(1, 6) for _ in range(rng.randint(1, 5))]
+        bound, exact = rng.randint(0, 14), rng.random() < 0.5
+        form = exact, bound, [(w, v) for v, w in enumerate(weights, 1)]
+        columns = bound + 1 if exact else bound
+        many = 2 * columns + sum(3 * columns + max(0, columns - w) for w in weights[1:]) + (bound > 0) + exact
+        assert len(order(form, len(weights) + 1)) == many <= 4 * len(weights) * columns + 2, form
+    for terms in range(1, 13):
+        for bound in range(1, terms + 1):
+            form = False, bound, [(1, v) for v in range(1, terms + 1)]
+            assert len(direct(form)) == math.comb(terms, bound - 1), form
+
+
 def main():
     if sys.argv[1] == "translate":
         sys.stdout.write(translate(sys.stdin.buffer.read()))
+        return
+    if sys.argv[1] == "sizes":
+        sizes()
         return
     folder = sys.argv[1]
     given, expected = bytearray(), []
