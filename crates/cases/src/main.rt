@@ -6,7 +6,7 @@ use output::print_cases;
 use std::io;
 use std::io::Read;
 
-// Kept: beside the other program's, since the input is read here: no library takes memory from the heap.
+// beside the other program's, since the input is read here: no library takes memory from the heap.
 fn main(rt: HostRuntime) -> io::Result<()> {
     let mut cases = Vec::new(rt.alloc());
     let _ = rt.stdin().read_to_end(&mut cases)?;

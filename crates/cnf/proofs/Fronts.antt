@@ -8,7 +8,7 @@ use Rattle.cnf.specs.Clauses.{Clause, well_formed}
 use Rattle.cnf.specs.Layouts.{Layout, Faithful, Shows, Front, has_room}
 use Rattle.cnf.specs.Marks.{place_after_mark}
 use Rattle.cnf.specs.Tables.{overwritten}
-use Rattle.cnf.proofs.Laying.{shows_few, read_more, shows_more, room_more, read_first, shows_first, part_of}
+use Rattle.cnf.proofs.Showing.{shows_few, read_more, shows_more, room_more, read_first, shows_first, part_of}
 use Rattle.cnf.proofs.Marking.{after_within, after_more}
 use Rattle.cnf.proofs.Overwriting.{overwritten_front, overwritten_length}
 

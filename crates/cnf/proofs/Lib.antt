@@ -1,13 +1,13 @@
-pub mod Pouring
-pub mod Ways
+pub mod GivingEach
+pub mod PartlyGiven
 pub mod Marking
 pub mod Overwriting
-pub mod Laying
+pub mod Showing
 pub mod Fronts
-pub mod InCells
-pub mod InText
+pub mod CellsBack
+pub mod TextBack
 pub mod Asking
-pub mod Capping
+pub mod Limiting
 pub mod Giving
 pub mod Satisfying
 mod Forming

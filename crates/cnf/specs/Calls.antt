@@ -1,8 +1,8 @@
 -- What the calls of a sheet answer, and what it holds then, by its rule which lists fit.
 use Rattle.std.specs.Prelude.{◌≡◌, ℕ, suc, Bool, true, cond, ◌&&◌, List, [], ◌∷◌, ◌++◌, length, take, is_ok, Ok, Err, Result, nat_le}
-use Rattle.fault.specs.declared.sheet.SheetFault.{SheetFault}
-use Rattle.fault.specs.declared.sheet.SheetFault.TheVariants.{Malformed, Full, Cut}
-use Rattle.fault.specs.Refusals.{placed}
+use Rattle.cnf.specs.declared.sheet_fault.SheetFault.{SheetFault}
+use Rattle.cnf.specs.declared.sheet_fault.SheetCause.{SheetCause}
+use Rattle.cnf.specs.declared.sheet_fault.SheetCause.TheVariants.{Malformed, Full, Cut}
 use Rattle.cnf.specs.Clauses.{Clause, well_formed}
 
 -- which lists of clauses fit a sheet
@@ -14,49 +14,53 @@ abbrev pub Begins : Rule → Type 0
 Begins fits = (n : ℕ) (cs : List Clause) → fits cs ≡ true → fits (take n cs) ≡ true
 
 -- the lists that fit below and have at most so many clauses
-abbrev pub capped : ℕ → Rule → Rule
-capped most fits cs = nat_le (length cs) most && fits cs
+abbrev pub limited_to : ℕ → Rule → Rule
+limited_to most fits cs = nat_le (length cs) most && fits cs
+
+-- a refusal by a sheet that holds cs
+abbrev pub refused : SheetCause → List Clause → SheetFault
+refused cause cs = record { cause = cause; count = length cs }
 
 -- a clause is given to a sheet that holds cs: a malformed one is refused first, then one that would not fit
 abbrev pub give_answer : Rule → List Clause → Clause → Result ℕ SheetFault
 give_answer fits cs c =
     cond (well_formed c)
-    (cond (fits (cs ++ c ∷ [])) (Ok (suc (length cs))) (Err (Full (length cs))))
-    (Err (Malformed (length cs)))
+    (cond (fits (cs ++ c ∷ [])) (Ok (suc (length cs))) (Err (refused Full cs)))
+    (Err (refused Malformed cs))
 
 abbrev pub give_held : Rule → List Clause → Clause → List Clause
 give_held fits cs c = cond (well_formed c && fits (cs ++ c ∷ [])) (cs ++ c ∷ []) cs
 
 -- a sheet that holds cs is cut to its first clauses; a refused cut leaves them all, as does a beginning that is longer
 abbrev pub cut_answer : List Clause → ℕ → Result (Unit {0}) SheetFault
-cut_answer cs keep = cond (nat_le keep (length cs)) (Ok tt) (Err (Cut (length cs)))
+cut_answer cs keep = cond (nat_le keep (length cs)) (Ok tt) (Err (refused Cut cs))
 
 abbrev pub cut_held : List Clause → ℕ → List Clause
 cut_held cs keep = take keep cs
 
 -- clauses are given one after another, up to the first that is refused
-abbrev pub pour_answer : Rule → List Clause → List Clause → Result (Unit {0}) SheetFault
-pour_answer fits cs [] = Ok tt
-pour_answer fits cs (d ∷ ds) =
+abbrev pub each_answer : Rule → List Clause → List Clause → Result (Unit {0}) SheetFault
+each_answer fits cs [] = Ok tt
+each_answer fits cs (d ∷ ds) =
     cond (well_formed d)
-    (cond (fits (cs ++ d ∷ [])) (pour_answer fits (cs ++ d ∷ []) ds) (Err (Full (length cs))))
-    (Err (Malformed (length cs)))
+    (cond (fits (cs ++ d ∷ [])) (each_answer fits (cs ++ d ∷ []) ds) (Err (refused Full cs)))
+    (Err (refused Malformed cs))
 
-abbrev pub pour_held : Rule → List Clause → List Clause → List Clause
-pour_held fits cs [] = cs
-pour_held fits cs (d ∷ ds) = cond (well_formed d && fits (cs ++ d ∷ [])) (pour_held fits (cs ++ d ∷ []) ds) cs
+abbrev pub each_held : Rule → List Clause → List Clause → List Clause
+each_held fits cs [] = cs
+each_held fits cs (d ∷ ds) = cond (well_formed d && fits (cs ++ d ∷ [])) (each_held fits (cs ++ d ∷ []) ds) cs
 
 -- the same, all or nothing: how many clauses were added, or the refusal as one of the outer call
 abbrev pub all_of : List Clause → List Clause → Result (Unit {0}) SheetFault → Result ℕ SheetFault
 all_of cs ds (Ok done) = Ok (length ds)
-all_of cs ds (Err e) = Err (placed (length cs) e)
+all_of cs ds (Err e) = Err (refused e.cause cs)
 
 abbrev pub all_answer : Rule → List Clause → List Clause → Result ℕ SheetFault
-all_answer fits cs ds = all_of cs ds (pour_answer fits cs ds)
+all_answer fits cs ds = all_of cs ds (each_answer fits cs ds)
 
 abbrev pub all_held : Rule → List Clause → List Clause → List Clause
-all_held fits cs ds = cond (is_ok (pour_answer fits cs ds)) (cs ++ ds) cs
+all_held fits cs ds = cond (is_ok (each_answer fits cs ds)) (cs ++ ds) cs
 
 -- so well-formed clauses go on exactly when the longer list fits, and else are refused with the count before the call
 abbrev pub whole_answer : Rule → List Clause → List Clause → Result ℕ SheetFault
-whole_answer fits cs ds = cond (fits (cs ++ ds)) (Ok (length ds)) (Err (Full (length cs)))
+whole_answer fits cs ds = cond (fits (cs ++ ds)) (Ok (length ds)) (Err (refused Full cs))

@@ -19,5 +19,5 @@ abbrev pub clauses_in : List ℤ → List Clause
 clauses_in [] = []
 clauses_in (l ∷ ls) = cond (is_zero l) (of_literals [] ∷ clauses_in ls) (onto_first l (clauses_in ls))
 
-abbrev pub cell_layout : Layout ℤ
-cell_layout = record { write = cells_of; mark = is_zero; read = clauses_in }
+abbrev pub flat_layout : Layout ℤ
+flat_layout = record { write = cells_of; mark = is_zero; read = clauses_in }

@@ -1,22 +1,22 @@
 -- What a call that is given a sheet leaves of it, in terms of the sheet's own meaning: s is the sheet before the call and
 -- t the sheet after it.
 use Rattle.std.specs.Prelude.{◌≡◌, ℕ, true, List, Result}
-use Rattle.fault.specs.declared.sheet.SheetFault.{SheetFault}
-use Rattle.cnf.specs.Calls.{pour_answer, pour_held, all_answer, all_held, whole_answer}
+use Rattle.cnf.specs.declared.sheet_fault.SheetFault.{SheetFault}
+use Rattle.cnf.specs.Calls.{each_answer, each_held, all_answer, all_held, whole_answer}
 use Rattle.cnf.specs.Clauses.{Clause, all_well_formed}
 use Rattle.cnf.specs.declared.sheet.Sheet.{Ghosts}
 
 -- whatever the call did, the sheet's rule and its loan stay
-pub record Kept {S : Type 0} (sheet : Ghosts S) (s t : S) : Type 0 where
+pub record SameSheet {S : Type 0} (sheet : Ghosts S) (s t : S) : Type 0 where
   pub rule : sheet.fits t ≡ sheet.fits s
   pub same : sheet.loan t ≡ sheet.loan s
 
 -- clauses are given one after another, up to the first that is refused
-pub record Poured {S : Type 0} (sheet : Ghosts S) (s t : S) (r : Result (Unit {0}) SheetFault) (cs : List Clause) : Type 0 where
+pub record GivenEach {S : Type 0} (sheet : Ghosts S) (s t : S) (r : Result (Unit {0}) SheetFault) (cs : List Clause) : Type 0 where
   pub rule : sheet.fits t ≡ sheet.fits s
   pub same : sheet.loan t ≡ sheet.loan s
-  pub answer : r ≡ pour_answer (sheet.fits s) (sheet.held s) cs
-  pub after : sheet.held t ≡ pour_held (sheet.fits s) (sheet.held s) cs
+  pub answer : r ≡ each_answer (sheet.fits s) (sheet.held s) cs
+  pub after : sheet.held t ≡ each_held (sheet.fits s) (sheet.held s) cs
 
 -- all of them are given, or none; where they are well-formed, all exactly when the longer list fits
 pub record GivenAll {S : Type 0} (sheet : Ghosts S) (s t : S) (r : Result ℕ SheetFault) (cs : List Clause) : Type 0 where

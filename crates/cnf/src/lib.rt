@@ -5,3 +5,4 @@ pub mod clause;
 pub mod listing;
 pub mod marks;
 pub mod sheet;
+pub mod sheet_fault;

@@ -2,17 +2,17 @@
 ghost use Rattle.std.specs.Prelude.{List, map};
 ghost use Rattle.cnf.specs.Clauses.{Clause, of_literals};
 ghost use Rattle.cnf.specs.Laws.{Satisfaction};
-ghost use Rattle.cnf.specs.Sheets.{Poured, GivenAll};
+ghost use Rattle.cnf.specs.Sheets.{GivenEach, GivenAll};
 
 use crate::sheet::Sheet;
-use fault::sheet::SheetFault;
+use crate::sheet_fault::SheetFault;
 
 pub trait Listing {
     ghost clauses: { Self → List Clause };
 
     // Gives the clauses one after another, up to the first that is refused.
-    fn pour<S: Sheet>(&self, sheet: &mut S) -> Result<(), SheetFault>
-        ensures { Poured S.Sheet sheet.old sheet.new result (clauses self.now) };
+    fn give_each<S: Sheet>(&self, sheet: &mut S) -> Result<(), SheetFault>
+        ensures { GivenEach S.Sheet sheet.old sheet.new result (clauses self.now) };
 }
 
 // Clauses that are there already.
@@ -22,7 +22,7 @@ pub struct Clauses<'a, 'b>(pub &'a [&'b [i32]]);
 impl<'a, 'b> Listing for Clauses<'a, 'b> {
     ghost clauses = { λ s. map (λ c. of_literals c.now) s.0.now };
 
-    fn pour<S: Sheet>(&self, sheet: &mut S) -> Result<(), SheetFault> {
+    fn give_each<S: Sheet>(&self, sheet: &mut S) -> Result<(), SheetFault> {
         for clause in self.0 {
             let _ = sheet.give(clause)?;
         }
@@ -36,12 +36,15 @@ pub fn give_all<L: Listing, S: Sheet>(list: &L, sheet: &mut S) -> Result<usize, 
     ensures meaning { Satisfaction }
 {
     let before = sheet.count();
-    match list.pour(sheet) {
+    match list.give_each(sheet) {
         Ok(()) => Ok(sheet.count() - before),
         Err(fault) => {
             // the sheet holds `before` clauses or more, so that this cut is not refused
             let _ = sheet.cut(before);
-            Err(fault.of_outer_call(before))
+            Err(SheetFault {
+                count: before,
+                ..fault
+            })
         }
     }
 }

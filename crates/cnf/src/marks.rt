@@ -3,7 +3,7 @@ ghost use Rattle.std.specs.Prelude.{◌≡◌, Bool};
 ghost use Rattle.cnf.specs.Marks.{place_after_mark};
 
 // Which elements end a part.
-// Kept: a trait, since a closure would ask whoever calls `after_mark` to show that it may be called, and other tests than `Equal` may come.
+// a trait, since a closure would ask whoever calls `after_mark` to show that it may be called, and other tests than `Equal` may come.
 pub trait Mark<T> {
     ghost ends: { Self → T → Bool };
 
@@ -27,7 +27,7 @@ impl<T: Copy + Eq> Mark<T> for Equal<T> {
 pub fn after_mark<T: Copy, E: Mark<T>>(all: &[T], mark: &E, k: usize) -> usize
     ensures { result ≡ place_after_mark (E.Mark.ends mark.now) k all.now }
 {
-    // Kept: the marks left are counted, since no place is: a filter's `nth` would need a case for 0 and the length.
+    // the marks left are counted, since no place is: a filter's `nth` would need a case for 0 and the length.
     let mut left = k;
     for (i, element) in all.iter().enumerate() {
         if left == 0 {

@@ -4,7 +4,7 @@ ghost use Rattle.std.specs.Prelude.{◌≡◌, true, List, length};
 ghost use Rattle.cnf.specs.Clauses.{Clause, of_literals, literal_at};
 ghost use Rattle.cnf.specs.Calls.{Rule, Begins, give_answer, give_held, cut_answer, cut_held};
 
-use fault::sheet::SheetFault;
+use crate::sheet_fault::SheetFault;
 
 pub trait Sheet {
     // The clauses that the sheet holds.

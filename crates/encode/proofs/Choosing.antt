@@ -13,7 +13,7 @@ module _ (most : ℕ) (few many : Encoding) (p : Lawful few) (q : Lawful many) w
   its_law w = either_lawful (leb (length w.terms) most) few many p q
 
   its_reach : (n first : ℕ) (w : Working) → InReach (up_to most few many) n first w → InReach (chosen_for most few many w) n first w
-  its_reach n first w r = record { proper = r.proper; reached = r.reached; above = r.above; below = r.below }
+  its_reach n first w r = record { is_normal = r.is_normal; reached = r.reached; above = r.above; below = r.below }
 
   pub up_to_lawful : Lawful (up_to most few many)
   up_to_lawful =

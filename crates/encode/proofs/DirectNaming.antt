@@ -6,7 +6,7 @@ use Rattle.std.proofs.lemmas.Bool.{and_from, leb-true}
 use Rattle.cnf.specs.Clauses.{Clause, of_literals, literals_within}
 use Rattle.pb.specs.declared.working.Sense.{Sense}
 use Rattle.pb.specs.declared.working.Sense.TheVariants.{AtLeast, Exactly}
-use Rattle.pb.specs.declared.working.Weighted.{Weighted}
+use Rattle.pb.specs.declared.working.WorkingTerm.{WorkingTerm}
 use Rattle.pb.specs.Lines.{Working}
 use Rattle.pb.specs.Sums.{weight_sum}
 use Rattle.pb.proofs.Settling.{variable_of_complement}
@@ -21,7 +21,7 @@ first_length : (b : Bool) (l : ℤ) (ls : List ℤ) → length (cond b (l ∷ []
 first_length true l ls = omega arith
 first_length false l ls = omega arith
 
-chosen_length : (flip : Bool) (ts : List Weighted) (mask : ℕ) → length (chosen flip ts mask) ≤ length ts
+chosen_length : (flip : Bool) (ts : List WorkingTerm) (mask : ℕ) → length (chosen flip ts mask) ≤ length ts
 chosen_length flip [] mask = omega arith
 chosen_length flip (t ∷ ts) mask =
     let e = chosen_length flip ts (mask / 2) in
@@ -38,13 +38,13 @@ module _ (p : ℕ → Bool) where
   first_within true l ls e h = and_from _ _ e h
   first_within false l ls e h = h
 
-  chosen_within : (flip : Bool) (ts : List Weighted) (mask : ℕ) → AllByRecursion (λ t. p (nat_abs t.literal) ≡ true) ts → literals_within p (chosen flip ts mask) ≡ true
+  chosen_within : (flip : Bool) (ts : List WorkingTerm) (mask : ℕ) → AllByRecursion (λ t. p (nat_abs t.literal) ≡ true) ts → literals_within p (chosen flip ts mask) ≡ true
   chosen_within flip [] mask h = refl
   chosen_within flip (t ∷ ts) mask h =
       first_within (has_first mask) (flipped flip t.literal) (chosen flip ts (mask / 2)) (ap p (flipped_variable flip t.literal) ∙ h.0) (chosen_within flip ts (mask / 2) h.1)
 
 -- what holds of the clause of each set holds of each clause of a line
-direct_each : (P : Clause → Type 0) (s : Sense) (bound : ℕ) (ts : List Weighted) → ((flip : Bool) (mask : ℕ) → P (of_literals (chosen flip ts mask))) → AllByRecursion P (direct_clauses s bound ts)
+direct_each : (P : Clause → Type 0) (s : Sense) (bound : ℕ) (ts : List WorkingTerm) → ((flip : Bool) (mask : ℕ) → P (of_literals (chosen flip ts mask))) → AllByRecursion P (direct_clauses s bound ts)
 direct_each P AtLeast bound ts h = listed_each false ts bound P (h false)
 direct_each P Exactly bound ts h =
     let rest = weight_sum ts - bound in

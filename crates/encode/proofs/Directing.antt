@@ -7,7 +7,7 @@ use Rattle.cnf.specs.Clauses.{satisfies_all}
 use Rattle.cnf.proofs.Satisfying.{satisfies_append}
 use Rattle.pb.specs.declared.working.Sense.{Sense}
 use Rattle.pb.specs.declared.working.Sense.TheVariants.{AtLeast, Exactly}
-use Rattle.pb.specs.declared.working.Weighted.{Weighted}
+use Rattle.pb.specs.declared.working.WorkingTerm.{WorkingTerm}
 use Rattle.pb.specs.Lines.{Working}
 use Rattle.pb.specs.Meaning.{Assignment, holds}
 use Rattle.pb.specs.Meaning.{weighed, reaches, met}
@@ -26,7 +26,7 @@ either_counts : (b : Bool) (w : ℕ) → cond (not b) w 0 + cond b w 0 ≡ w
 either_counts true w = omega arith
 either_counts false w = omega arith
 
-both_count : (n : ℕ) (v : Assignment) (ts : List Weighted) → AllByRecursion (OnVariable n) ts → counted true v ts + counted false v ts ≡ weight_sum ts
+both_count : (n : ℕ) (v : Assignment) (ts : List WorkingTerm) → AllByRecursion (OnVariable n) ts → counted true v ts + counted false v ts ≡ weight_sum ts
 both_count n v [] h = refl
 both_count n v (t ∷ ts) h =
     let e = both_count n v ts h.1 in
@@ -37,7 +37,7 @@ both_count n v (t ∷ ts) h =
 exactly_both : (count other sum bound : ℕ) → other + count ≡ sum → (leb bound count && leb (sum - bound) other) ≡ reaches Exactly count bound
 exactly_both count other sum bound e = grind (arith, nat_tests)
 
-direct_satisfied : (n : ℕ) (v : Assignment) (s : Sense) (bound : ℕ) (ts : List Weighted) → AllByRecursion (OnVariable n) ts → satisfies_all v (direct_clauses s bound ts) ≡ reaches s (counted false v ts) bound
+direct_satisfied : (n : ℕ) (v : Assignment) (s : Sense) (bound : ℕ) (ts : List WorkingTerm) → AllByRecursion (OnVariable n) ts → satisfies_all v (direct_clauses s bound ts) ≡ reaches s (counted false v ts) bound
 direct_satisfied n v AtLeast bound ts h = listed_satisfied false ts bound v
 direct_satisfied n v Exactly bound ts h =
     let rest = weight_sum ts - bound in
@@ -46,7 +46,7 @@ direct_satisfied n v Exactly bound ts h =
     (exactly_both (counted false v ts) (counted true v ts) (weight_sum ts) bound (both_count n v ts h))
 
 -- what the literals themselves count is what the terms weigh
-counted_weighed : (v : Assignment) (ts : List Weighted) → counted false v ts ≡ weighed v ts
+counted_weighed : (v : Assignment) (ts : List WorkingTerm) → counted false v ts ≡ weighed v ts
 counted_weighed v [] = refl
 counted_weighed v (t ∷ ts) = ap (λ x. cond (holds v t.literal) t.weight 0 + x) (counted_weighed v ts)
 

@@ -6,7 +6,7 @@ use Rattle.std.proofs.lemmas.Bool.{and_parts, ltb-true, leb-true, le-leb, cases_
 use Rattle.std.proofs.lemmas.Bool.Decides.{same_from_decides}
 use Rattle.std.proofs.ByRecursion.{Decides-by_and}
 use Rattle.cnf.specs.Clauses.{Clause, of_literals, some_holds, satisfies, satisfies_all}
-use Rattle.pb.specs.declared.working.Weighted.{Weighted}
+use Rattle.pb.specs.declared.working.WorkingTerm.{WorkingTerm}
 use Rattle.pb.specs.Meaning.{Assignment}
 use Rattle.encode.specs.Direct.{outside, least, chosen, listed_from, listed}
 use Rattle.encode.proofs.LeastSets.{counted, missed_outside, least_missed}
@@ -24,7 +24,7 @@ module _ (P : Clause → Type 0) where
   under_each true c cs h = (λ _. h.0, h.1)
   under_each false c cs h = (λ e. absurd (false≢true e), h)
 
-module _ (flip : Bool) (ts : List Weighted) (bound : ℕ) where
+module _ (flip : Bool) (ts : List WorkingTerm) (bound : ℕ) where
   -- what holds of the clause of each least mask holds of each clause of a list, and what holds of these holds of the
   -- clause of each least mask that the list goes through
   from_each : (P : Clause → Type 0) → ((mask : ℕ) → least ts bound mask ≡ true → P (of_literals (chosen flip ts mask))) → (n from : ℕ) → AllByRecursion P (listed_from n from flip ts bound)

@@ -3,13 +3,13 @@
 use Rattle.std.proofs.Common.{◌≡◌, ℕ, ◌+◌, ◌/◌, ◌^◌, ◌<◌, ◌≤◌, Bool, true, false, cond, ◌&&◌, leb, List, [], ◌∷◌, ◌++◌, length, ℤ, refl, ◌∙◌, inl, inr, arith}
 use Rattle.std.proofs.lemmas.Bool.{and_from, or_parts, or_from, lt-ltb, le-leb, cases_Bool, cases_lt, false≢true}
 use Rattle.cnf.specs.Clauses.{some_holds}
-use Rattle.pb.specs.declared.working.Weighted.{Weighted}
+use Rattle.pb.specs.declared.working.WorkingTerm.{WorkingTerm}
 use Rattle.pb.specs.Meaning.{Assignment, holds}
 use Rattle.encode.specs.Direct.{has_first, outside, each_lifts, least, flipped, chosen}
 use Rattle.encode.proofs.Masks.{put, at_put, put_below}
 
 -- the sum of the weights whose literals hold, or whose complements do
-abbrev pub counted : Bool → Assignment → List Weighted → ℕ
+abbrev pub counted : Bool → Assignment → List WorkingTerm → ℕ
 counted flip v [] = 0
 counted flip v (t ∷ ts) = cond (holds v (flipped flip t.literal)) t.weight 0 + counted flip v ts
 
@@ -19,7 +19,7 @@ first_missed true v l ls w h =
     (rw p.0 (omega arith), p.1)
 first_missed false v l ls w h = (elim (holds v l) as (λ b. cond b w 0 ≤ w) [ true ↦ omega arith | false ↦ omega arith ], h)
 
-pub missed_outside : (flip : Bool) (v : Assignment) (ts : List Weighted) (mask : ℕ) → some_holds v (chosen flip ts mask) ≡ false → counted flip v ts ≤ outside ts mask
+pub missed_outside : (flip : Bool) (v : Assignment) (ts : List WorkingTerm) (mask : ℕ) → some_holds v (chosen flip ts mask) ≡ false → counted flip v ts ≤ outside ts mask
 missed_outside flip v [] mask h = omega arith
 missed_outside flip v (t ∷ ts) mask h =
     let p = first_missed (has_first mask) v (flipped flip t.literal) (chosen flip ts (mask / 2)) t.weight h in
@@ -29,7 +29,7 @@ missed_outside flip v (t ∷ ts) mask h =
 -- a missed set of the last terms, where `sum` is what is outside among the terms before, with what counts among these.
 -- What is outside among all is then the sum, with what is outside among these, less what counts among them: it is under
 -- the bound, and each weight in the set lifts it, or more than it, to the bound
-record Missed (flip : Bool) (v : Assignment) (bound : ℕ) (ts : List Weighted) (sum : ℕ) : Type 0 where
+record Missed (flip : Bool) (v : Assignment) (bound : ℕ) (ts : List WorkingTerm) (sum : ℕ) : Type 0 where
   mask : ℕ
   below : mask < 2 ^ length ts
   none_holds : some_holds v (chosen flip ts mask) ≡ false
@@ -45,7 +45,7 @@ first_lifts : (b : Bool) (bound s w : ℕ) → (b ≡ true → bound ≤ s + w) 
 first_lifts true bound s w g = le-leb bound (s + w) (g refl)
 first_lifts false bound s w g = refl
 
-module _ (flip : Bool) (v : Assignment) (bound : ℕ) (t : Weighted) (ts : List Weighted) where
+module _ (flip : Bool) (v : Assignment) (bound : ℕ) (t : WorkingTerm) (ts : List WorkingTerm) where
   extended : (b : Bool) (sum next : ℕ) → sum + cond b 0 t.weight ≡ next + cond (holds v (flipped flip t.literal)) t.weight 0 → (b ≡ true → holds v (flipped flip t.literal) ≡ false) → (b ≡ true → bound ≤ next + t.weight) → Missed flip v bound ts next → Missed flip v bound (t ∷ ts) sum
   extended b sum next e f g m =
       let l = flipped flip t.literal in
@@ -70,11 +70,11 @@ module _ (flip : Bool) (v : Assignment) (bound : ℕ) (t : Weighted) (ts : List 
     ]
   ]
 
-missed : (flip : Bool) (v : Assignment) (bound : ℕ) (ts : List Weighted) (sum : ℕ) → sum < bound → Missed flip v bound ts sum
+missed : (flip : Bool) (v : Assignment) (bound : ℕ) (ts : List WorkingTerm) (sum : ℕ) → sum < bound → Missed flip v bound ts sum
 missed flip v bound [] sum h = record { mask = 0; below = omega arith; none_holds = refl; under = omega arith; lifting = λ s k. refl }
 missed flip v bound (t ∷ ts) sum h = missed_first flip v bound t ts sum (missed flip v bound ts) h
 
-pub least_missed : (flip : Bool) (v : Assignment) (bound : ℕ) (ts : List Weighted) → counted flip v ts < bound → (mask : ℕ) × (mask < 2 ^ length ts) × (least ts bound mask ≡ true) × (some_holds v (chosen flip ts mask) ≡ false)
+pub least_missed : (flip : Bool) (v : Assignment) (bound : ℕ) (ts : List WorkingTerm) → counted flip v ts < bound → (mask : ℕ) × (mask < 2 ^ length ts) × (least ts bound mask ≡ true) × (some_holds v (chosen flip ts mask) ≡ false)
 least_missed flip v bound ts h =
     let m = missed flip v bound ts (counted flip v ts) h in
     (m.mask, m.below, and_from _ _ (lt-ltb _ _ (omega arith)) (m.lifting (outside ts m.mask) (omega arith)), m.none_holds)

@@ -6,7 +6,7 @@ use Rattle.std.proofs.lemmas.Bool.{false≢true, leb-true, le-leb, lt-leb, cases
 use Rattle.std.proofs.lemmas.Bool.Decides.{nat_tests, Decides-at, Decides-like, Decides-and}
 use Rattle.pb.specs.declared.working.Sense.{Sense}
 use Rattle.pb.specs.declared.working.Sense.TheVariants.{AtLeast, Exactly}
-use Rattle.pb.specs.declared.working.Weighted.{Weighted}
+use Rattle.pb.specs.declared.working.WorkingTerm.{WorkingTerm}
 use Rattle.pb.specs.Meaning.{Assignment, holds}
 use Rattle.pb.specs.Meaning.{weighed, reaches}
 use Rattle.pb.proofs.Settling.{complement_holds}
@@ -63,7 +63,7 @@ pub row_at : (v : Assignment) (first c : ℕ) {i k total sum : ℕ} → i ≡ k 
 row_at v first c e d row = subst₂ (Row v first c) e d row
 
 -- the rows from i on, for these terms
-abbrev pub Rows : Assignment → ℕ → ℕ → ℕ → ℕ → List Weighted → Type 0
+abbrev pub Rows : Assignment → ℕ → ℕ → ℕ → ℕ → List WorkingTerm → Type 0
 Rows v first c i total ts = (r : ℕ) → r ≤ length ts → Row v first c (r + i) (weighed v (take r ts) + total)
 
 -- row 0 counts no terms
@@ -76,20 +76,20 @@ rows_none v first c i total row zero h = row_at v first c (omega arith) (omega a
 rows_none v first c i total row (suc r) h = absurd (omega arith)
 
 -- what a term adds to the total
-abbrev pub added : Assignment → Weighted → ℕ
+abbrev pub added : Assignment → WorkingTerm → ℕ
 added v t = cond (holds v t.literal) t.weight 0
 
-rows_more : (v : Assignment) (first c i total : ℕ) (t : Weighted) (ts : List Weighted) → Row v first c i total → Rows v first c (suc i) (added v t + total) ts → Rows v first c i total (t ∷ ts)
+rows_more : (v : Assignment) (first c i total : ℕ) (t : WorkingTerm) (ts : List WorkingTerm) → Row v first c i total → Rows v first c (suc i) (added v t + total) ts → Rows v first c i total (t ∷ ts)
 rows_more v first c i total t ts row rows zero h = row_at v first c (omega arith) (omega arith) row
 rows_more v first c i total t ts row rows (suc r) h = row_at v first c (omega arith) (omega arith) (rows r (omega arith))
 
-rows_parts : (v : Assignment) (first c i total : ℕ) (t : Weighted) (ts : List Weighted) → Rows v first c i total (t ∷ ts) → Row v first c (suc i) (added v t + total) × Rows v first c (suc i) (added v t + total) ts
+rows_parts : (v : Assignment) (first c i total : ℕ) (t : WorkingTerm) (ts : List WorkingTerm) → Rows v first c i total (t ∷ ts) → Row v first c (suc i) (added v t + total) × Rows v first c (suc i) (added v t + total) ts
 rows_parts v first c i total t ts rows =
     let later : Rows v first c (suc i) (added v t + total) ts = λ r h. row_at v first c (omega arith) (omega arith) (rows (suc r) (omega arith)) in
     (row_at v first c {k = suc i} (omega arith) (omega arith) (later 0 (omega arith)), later)
 
 module _ (v : Assignment) (first c : ℕ) (start : 0 < first) where
-  cell_kept : (i j : ℕ) (t : Weighted) → 0 < nat_abs t.literal → satisfies_all v (cell first c i j t) ≡ kept (worth v (counted first c i j)) (worth v (counted first c i (j - t.weight))) (holds v t.literal) (worth v (counted first c (suc i) j))
+  cell_kept : (i j : ℕ) (t : WorkingTerm) → 0 < nat_abs t.literal → satisfies_all v (cell first c i j t) ≡ kept (worth v (counted first c i j)) (worth v (counted first c i (j - t.weight))) (holds v t.literal) (worth v (counted first c (suc i) j))
   cell_kept i j t h =
       let here = counted first c i j in
       let back = counted first c i (j - t.weight) in
@@ -97,7 +97,7 @@ module _ (v : Assignment) (first c : ℕ) (start : 0 < first) where
       satisfied_four v (opposite here ∷ next ∷ []) (literal (neg_ℤ t.literal) ∷ opposite back ∷ next ∷ []) (literal t.literal ∷ here ∷ opposite next ∷ []) (back ∷ opposite next ∷ [])
       ∙ simp (worth_opposite v first c i j start, worth_opposite v first c i (j - t.weight) start, worth_opposite v first c (suc i) j start, complement_holds v t.literal h)
 
-  cell_decides : (i j total : ℕ) (t : Weighted) → 0 < nat_abs t.literal → j ≤ c → Row v first c i total → Decides (satisfies_all v (cell first c i j t)) (worth v (counted first c (suc i) j) ≡ leb j (added v t + total))
+  cell_decides : (i j total : ℕ) (t : WorkingTerm) → 0 < nat_abs t.literal → j ≤ c → Row v first c i total → Decides (satisfies_all v (cell first c i j t)) (worth v (counted first c (suc i) j) ≡ leb j (added v t + total))
   cell_decides i j total t h fits row =
       let here = worth v (counted first c i j) in
       let back = worth v (counted first c i (j - t.weight)) in
@@ -107,7 +107,7 @@ module _ (v : Assignment) (first c : ℕ) (start : 0 < first) where
       Decides-at _ _ (cell_kept i j t h) (rw (← cell_value (holds v t.literal) j t.weight total, ← s, ← d) e)
 
   -- so many cells of the next row, from column j on
-  cells_decide : (i j k total : ℕ) (t : Weighted) → 0 < nat_abs t.literal → j + k ≤ suc c → Row v first c i total → Decides (satisfies_all v (row_from first c i j k t)) (Span (Right v first c (suc i) (added v t + total)) j k)
+  cells_decide : (i j k total : ℕ) (t : WorkingTerm) → 0 < nat_abs t.literal → j + k ≤ suc c → Row v first c i total → Decides (satisfies_all v (row_from first c i j k t)) (Span (Right v first c (suc i) (added v t + total)) j k)
   cells_decide i j zero total t h fits row = (λ _ m low high. absurd (omega arith), λ _. refl)
   cells_decide i j (suc k) total t h fits row =
       let cs = cell first c i j t in
@@ -116,11 +116,11 @@ module _ (v : Assignment) (first c : ℕ) (start : 0 < first) where
       let both = Decides-and (satisfies_all v cs) (satisfies_all v ds) (cell_decides i j total t h (omega arith) row) (cells_decide i (suc j) k total t h (omega arith) row) in
       Decides-at _ _ (satisfies_append v cs ds) (Decides-like _ (span_more P j k) (span_parts P j k) both)
 
-  row_decides : (i total : ℕ) (t : Weighted) → 0 < nat_abs t.literal → Row v first c i total → Decides (satisfies_all v (row_from first c i 1 c t)) (Row v first c (suc i) (added v t + total))
+  row_decides : (i total : ℕ) (t : WorkingTerm) → 0 < nat_abs t.literal → Row v first c i total → Decides (satisfies_all v (row_from first c i 1 c t)) (Row v first c (suc i) (added v t + total))
   row_decides i total t h row = Decides-like _ (row_from_span v first c i (added v t + total)) (λ q m low high. q m (omega arith)) (cells_decide i 1 c total t h (omega arith) row)
 
   -- the rows from i on, with these terms still to count
-  pub rows_decide : (i total : ℕ) (ts : List Weighted) → AllByRecursion (λ t. 0 < nat_abs t.literal) ts → Row v first c i total → Decides (satisfies_all v (rows_from first c i ts)) (Rows v first c i total ts)
+  pub rows_decide : (i total : ℕ) (ts : List WorkingTerm) → AllByRecursion (λ t. 0 < nat_abs t.literal) ts → Row v first c i total → Decides (satisfies_all v (rows_from first c i ts)) (Rows v first c i total ts)
   rows_decide i total [] h row = (λ _. rows_none v first c i total row, λ _. refl)
   rows_decide i total (t ∷ ts) h row =
       let cs = row_from first c i 1 c t in

@@ -6,7 +6,7 @@ use Rattle.std.proofs.ByRecursion.{All-append}
 use Rattle.std.proofs.lemmas.Bool.{and_from, or_right, le-leb, lt-ltb}
 use Rattle.pb.specs.declared.working.Sense.{Sense}
 use Rattle.pb.specs.declared.working.Sense.TheVariants.{AtLeast, Exactly}
-use Rattle.pb.specs.declared.working.Weighted.{Weighted}
+use Rattle.pb.specs.declared.working.WorkingTerm.{WorkingTerm}
 use Rattle.pb.specs.Lines.{Working}
 use Rattle.cnf.specs.Clauses.{Clause}
 use Rattle.encode.specs.Law.{named}
@@ -37,7 +37,7 @@ module _ (n first rows c : ℕ) where
   parts_fitting : (ps : List Part) → length ps ≤ 256 → AllByRecursion (Within (named n first (rows * c))) ps → Fitting n first rows c (clause_of ps)
   parts_fitting ps few h = neat_of (named n first (rows * c)) ps few h
 
-  cell_fitting : (i j : ℕ) (t : Weighted) → i < rows → j ≤ c → OnVariable n t → Fitting n first rows c (cell first c i j t)
+  cell_fitting : (i j : ℕ) (t : WorkingTerm) → i < rows → j ≤ c → OnVariable n t → Fitting n first rows c (cell first c i j t)
   cell_fitting i j t h g on =
       let here = counted first c i j in
       let back = counted first c i (j - t.weight) in
@@ -55,11 +55,11 @@ module _ (n first rows c : ℕ) where
       (both_fitting _ _ (parts_fitting (literal t.literal ∷ here ∷ opposite next ∷ []) (omega arith) (l, (here_in, (not_next, tt))))
       (parts_fitting (back ∷ opposite next ∷ []) (omega arith) (back_in, (not_next, tt)))))
 
-  row_fitting : (i j k : ℕ) (t : Weighted) → i < rows → j + k ≤ suc c → OnVariable n t → Fitting n first rows c (row_from first c i j k t)
+  row_fitting : (i j k : ℕ) (t : WorkingTerm) → i < rows → j + k ≤ suc c → OnVariable n t → Fitting n first rows c (row_from first c i j k t)
   row_fitting i j zero t h g on = tt
   row_fitting i j (suc k) t h g on = both_fitting (cell first c i j t) (row_from first c i (suc j) k t) (cell_fitting i j t h (omega arith) on) (row_fitting i (suc j) k t h (omega arith) on)
 
-  rows_fitting : (i : ℕ) (ts : List Weighted) → i + length ts ≤ rows → AllByRecursion (OnVariable n) ts → Fitting n first rows c (rows_from first c i ts)
+  rows_fitting : (i : ℕ) (ts : List WorkingTerm) → i + length ts ≤ rows → AllByRecursion (OnVariable n) ts → Fitting n first rows c (rows_from first c i ts)
   rows_fitting i [] h on = tt
   rows_fitting i (t ∷ ts) h on = both_fitting (row_from first c i 1 c t) (rows_from first c (suc i) ts) (row_fitting i 1 c t (omega arith) (omega arith) on.0) (rows_fitting (suc i) ts (omega arith) on.1)
 

@@ -5,7 +5,7 @@ use Rattle.std.specs.List.{AllByRecursion}
 use Rattle.std.proofs.ByRecursion.{All-take, All-weaker}
 use Rattle.std.proofs.lemmas.Bool.Decides.{Decides-at, Decides-like}
 use Rattle.pb.specs.declared.working.Sense.{Sense}
-use Rattle.pb.specs.declared.working.Weighted.{Weighted}
+use Rattle.pb.specs.declared.working.WorkingTerm.{WorkingTerm}
 use Rattle.pb.specs.Lines.{Working}
 use Rattle.pb.specs.Meaning.{Assignment, weighed, met, reaches}
 use Rattle.cnf.specs.Clauses.{satisfies_all}
@@ -19,27 +19,27 @@ use Rattle.encode.proofs.Places.{Filled, filled_placed, placed_filled}
 use Rattle.encode.proofs.Terms.{OnVariable, in_reach_on, weighed_agrees}
 
 -- what an assignment makes of the terms up to each row
-abbrev totals : Assignment → List Weighted → ℕ → ℕ
+abbrev totals : Assignment → List WorkingTerm → ℕ → ℕ
 totals a ts r = weighed a (take r ts)
 
-rows_filled : (a v : Assignment) (first c : ℕ) (ts : List Weighted) → ((r : ℕ) → totals v ts r ≡ totals a ts r) → Rows v first c 0 0 ts → Filled v first (length ts) c (totals a ts)
+rows_filled : (a v : Assignment) (first c : ℕ) (ts : List WorkingTerm) → ((r : ℕ) → totals v ts r ≡ totals a ts r) → Rows v first c 0 0 ts → Filled v first (length ts) c (totals a ts)
 rows_filled a v first c ts same rows r h = let e = same r in row_at v first c (omega arith) (omega arith) (rows r h)
 
-filled_rows : (a v : Assignment) (first c : ℕ) (ts : List Weighted) → ((r : ℕ) → totals v ts r ≡ totals a ts r) → Filled v first (length ts) c (totals a ts) → Rows v first c 0 0 ts
+filled_rows : (a v : Assignment) (first c : ℕ) (ts : List WorkingTerm) → ((r : ℕ) → totals v ts r ≡ totals a ts r) → Filled v first (length ts) c (totals a ts) → Rows v first c 0 0 ts
 filled_rows a v first c ts same rows r h = let e = same r in row_at v first c (omega arith) (omega arith) (rows r h)
 
 -- the rows are satisfied just where the matrix has its values
-rows_fill : (a v : Assignment) (n first c : ℕ) (ts : List Weighted) → n < first → AllByRecursion (OnVariable n) ts → ((x : ℕ) → x ≤ n → v x ≡ a x) → Decides (satisfies_all v (rows_from first c 0 ts)) (Filled v first (length ts) c (totals a ts))
+rows_fill : (a v : Assignment) (n first c : ℕ) (ts : List WorkingTerm) → n < first → AllByRecursion (OnVariable n) ts → ((x : ℕ) → x ≤ n → v x ≡ a x) → Decides (satisfies_all v (rows_from first c 0 ts)) (Filled v first (length ts) c (totals a ts))
 rows_fill a v n first c ts above on agree =
     let same : (r : ℕ) → totals v ts r ≡ totals a ts r = λ r. weighed_agrees n a v agree (take r ts) (All-take (OnVariable n) r ts on) in
     let named = All-weaker (OnVariable n) (λ t. 0 < nat_abs t.literal) (λ t h. h.0) ts on in
     Decides-like _ (rows_filled a v first c ts same) (filled_rows a v first c ts same) (rows_decide v first c (omega arith) 0 0 ts named (row_zero v first c))
 
 -- and the last clauses then, as the last row has the whole total, just where the line is met
-last_meets : (a v : Assignment) (first : ℕ) (s : Sense) (k : ℕ) (ts : List Weighted) → 0 < first → Filled v first (length ts) (columns s k) (totals a ts) → satisfies_all v (last_clauses s first (columns s k) (length ts) k) ≡ reaches s (weighed a ts) k
+last_meets : (a v : Assignment) (first : ℕ) (s : Sense) (k : ℕ) (ts : List WorkingTerm) → 0 < first → Filled v first (length ts) (columns s k) (totals a ts) → satisfies_all v (last_clauses s first (columns s k) (length ts) k) ≡ reaches s (weighed a ts) k
 last_meets a v first s k ts start all = last_satisfied v s first (length ts) k (weighed a ts) start (rw take-length at (all (length ts) (omega arith)))
 
-order_decides : (a v : Assignment) (n first : ℕ) (s : Sense) (k : ℕ) (ts : List Weighted) → n < first → AllByRecursion (OnVariable n) ts → ((x : ℕ) → x ≤ n → v x ≡ a x) → Decides (satisfies_all v (order_list (record { sense = s; bound = k; terms = ts }) first)) (Filled v first (length ts) (columns s k) (totals a ts) × (reaches s (weighed a ts) k ≡ true))
+order_decides : (a v : Assignment) (n first : ℕ) (s : Sense) (k : ℕ) (ts : List WorkingTerm) → n < first → AllByRecursion (OnVariable n) ts → ((x : ℕ) → x ≤ n → v x ≡ a x) → Decides (satisfies_all v (order_list (record { sense = s; bound = k; terms = ts }) first)) (Filled v first (length ts) (columns s k) (totals a ts) × (reaches s (weighed a ts) k ≡ true))
 order_decides a v n first s k ts above on agree =
     let c = columns s k in
     Decides-at _ _ (satisfies_append v (rows_from first c 0 ts) (last_clauses s first c (length ts) k))

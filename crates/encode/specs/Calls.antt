@@ -1,6 +1,6 @@
 -- What the calls of an encoder answer, and what the sheet holds then.
 use Rattle.std.specs.Prelude.{◌≡◌, ℕ, cond, List, Some, None, Ok, Err, Option, Result}
-use Rattle.fault.specs.declared.sheet.SheetFault.{SheetFault}
+use Rattle.cnf.specs.declared.sheet_fault.SheetFault.{SheetFault}
 use Rattle.cnf.specs.Calls.{Rule, all_answer, all_held}
 use Rattle.cnf.specs.Clauses.{Clause}
 use Rattle.cnf.specs.declared.sheet.Sheet.{Ghosts}

@@ -5,7 +5,7 @@ use Rattle.cnf.specs.Clauses.{Clause, of_literals}
 use Rattle.encode.specs.Law.{Encoding}
 use Rattle.pb.specs.declared.working.Sense.{Sense}
 use Rattle.pb.specs.declared.working.Sense.TheVariants.{AtLeast, Exactly}
-use Rattle.pb.specs.declared.working.Weighted.{Weighted}
+use Rattle.pb.specs.declared.working.WorkingTerm.{WorkingTerm}
 use Rattle.pb.specs.Lines.{Working}
 use Rattle.pb.specs.Sums.{weight_sum}
 
@@ -14,17 +14,17 @@ abbrev pub has_first : ℕ → Bool
 has_first mask = mask % 2 == 1
 
 -- the sum of the weights outside a set
-abbrev pub outside : List Weighted → ℕ → ℕ
+abbrev pub outside : List WorkingTerm → ℕ → ℕ
 outside [] mask = 0
 outside (t ∷ ts) mask = cond (has_first mask) 0 t.weight + outside ts (mask / 2)
 
 -- whether each weight in a set brings the sum to the bound or above
-abbrev pub each_lifts : List Weighted → ℕ → ℕ → ℕ → Bool
+abbrev pub each_lifts : List WorkingTerm → ℕ → ℕ → ℕ → Bool
 each_lifts [] mask sum bound = true
 each_lifts (t ∷ ts) mask sum bound = cond (has_first mask) (nat_le bound (sum + t.weight)) true && each_lifts ts (mask / 2) sum bound
 
 -- the weights outside total below the bound, and taking any term out of the set lifts them to the bound or more
-abbrev pub least : List Weighted → ℕ → ℕ → Bool
+abbrev pub least : List WorkingTerm → ℕ → ℕ → Bool
 least ts bound mask = nat_lt (outside ts mask) bound && each_lifts ts mask (outside ts mask) bound
 
 -- the literals of a set, in term order, or their complements
@@ -32,21 +32,21 @@ abbrev pub flipped : Bool → ℤ → ℤ
 flipped true l = neg_ℤ l
 flipped false l = l
 
-abbrev pub chosen : Bool → List Weighted → ℕ → List ℤ
+abbrev pub chosen : Bool → List WorkingTerm → ℕ → List ℤ
 chosen flip [] mask = []
 chosen flip (t ∷ ts) mask = cond (has_first mask) (flipped flip t.literal ∷ []) [] ++ chosen flip ts (mask / 2)
 
 -- the clauses of so many masks, from one on
-abbrev pub listed_from : ℕ → ℕ → Bool → List Weighted → ℕ → List Clause
+abbrev pub listed_from : ℕ → ℕ → Bool → List WorkingTerm → ℕ → List Clause
 listed_from zero mask flip ts bound = []
 listed_from (suc k) mask flip ts bound = cond (least ts bound mask) (of_literals (chosen flip ts mask) ∷ []) [] ++ listed_from k (suc mask) flip ts bound
 
-abbrev pub listed : Bool → List Weighted → ℕ → List Clause
+abbrev pub listed : Bool → List WorkingTerm → ℕ → List Clause
 listed flip ts bound = listed_from (2 ^ length ts) 0 flip ts bound
 
 -- "exactly" is "at least", and then the same weights on the complements with what the bound leaves of the sum; where
 -- the bound is above the sum, nothing is left and no total lies below 0
-abbrev pub direct_clauses : Sense → ℕ → List Weighted → List Clause
+abbrev pub direct_clauses : Sense → ℕ → List WorkingTerm → List Clause
 direct_clauses AtLeast bound ts = listed false ts bound
 direct_clauses Exactly bound ts = listed false ts bound ++ listed true ts (weight_sum ts - bound)
 

@@ -3,7 +3,7 @@ use Rattle.std.specs.Prelude.{◌≡◌, ℕ, ◌+◌, ◌<◌, ◌≤◌, Bool,
 use Rattle.cnf.specs.Clauses.{Clause, satisfies_all, all_well_formed, names_within}
 use Rattle.pb.specs.Lines.{Working}
 use Rattle.pb.specs.Meaning.{Assignment, met}
-use Rattle.pb.specs.Proper.{Proper}
+use Rattle.pb.specs.WorkingForm.{IsNormal}
 
 -- which lines are in reach; how many auxiliaries a line takes; its clauses, where its auxiliaries are numbered on from
 -- a first number; and the value of each auxiliary, counted from 0, under an assignment of the variables
@@ -17,10 +17,10 @@ pub record Encoding : Type 0 where
 abbrev pub named : ℕ → ℕ → ℕ → ℕ → Bool
 named n first k v = (nat_lt 0 v && nat_le v n) || (nat_le first v && nat_lt v (first + k))
 
--- a proper line in reach on the variables 1 to n, whose auxiliaries, numbered on from `first`, would all lie above these and
+-- a line in normal form in reach on the variables 1 to n, whose auxiliaries, numbered on from `first`, would all lie above these and
 -- none above 60,000
 pub record InReach (e : Encoding) (n first : ℕ) (w : Working) : Type 0 where
-  pub proper : Proper n w
+  pub is_normal : IsNormal n w
   pub reached : e.reach w ≡ true
   pub above : n < first
   pub below : first + e.takes w ≤ 60001

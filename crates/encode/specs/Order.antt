@@ -4,7 +4,7 @@ use Rattle.cnf.specs.Clauses.{Clause, of_literals}
 use Rattle.encode.specs.Law.{Encoding}
 use Rattle.pb.specs.declared.working.Sense.{Sense}
 use Rattle.pb.specs.declared.working.Sense.TheVariants.{AtLeast, Exactly}
-use Rattle.pb.specs.declared.working.Weighted.{Weighted}
+use Rattle.pb.specs.declared.working.WorkingTerm.{WorkingTerm}
 use Rattle.pb.specs.Lines.{Working}
 use Rattle.pb.specs.Meaning.{Assignment, weighed}
 
@@ -42,7 +42,7 @@ counted first c zero (suc j) = never
 counted first c (suc i) (suc j) = literal (pos (first + (i * c + j)))
 
 -- the four clauses of s(i + 1, j), where the term i + 1 has this literal and weight; j - w stops at 0
-abbrev pub cell : ℕ → ℕ → ℕ → ℕ → Weighted → List Clause
+abbrev pub cell : ℕ → ℕ → ℕ → ℕ → WorkingTerm → List Clause
 cell first c i j t =
     clause_of (opposite (counted first c i j) ∷ counted first c (suc i) j ∷ [])
     ++ (clause_of (literal (neg_ℤ t.literal) ∷ opposite (counted first c i (j - t.weight)) ∷ counted first c (suc i) j ∷ [])
@@ -50,12 +50,12 @@ cell first c i j t =
     ++ clause_of (counted first c i (j - t.weight) ∷ opposite (counted first c (suc i) j) ∷ [])))
 
 -- the cells of row i + 1 from column j on, so many
-abbrev pub row_from : ℕ → ℕ → ℕ → ℕ → ℕ → Weighted → List Clause
+abbrev pub row_from : ℕ → ℕ → ℕ → ℕ → ℕ → WorkingTerm → List Clause
 row_from first c i j zero t = []
 row_from first c i j (suc k) t = cell first c i j t ++ row_from first c i (suc j) k t
 
 -- the rows from i + 1 on, for these terms
-abbrev pub rows_from : ℕ → ℕ → ℕ → List Weighted → List Clause
+abbrev pub rows_from : ℕ → ℕ → ℕ → List WorkingTerm → List Clause
 rows_from first c i [] = []
 rows_from first c i (t ∷ ts) = row_from first c i 1 c t ++ rows_from first c (suc i) ts
 
@@ -77,7 +77,7 @@ abbrev pub order_reach : Working → Bool
 order_reach w = nat_le (order_takes w) 16384
 
 -- auxiliary m stands in row m / c + 1 and column m % c + 1
-abbrev pub order_value_in : ℕ → List Weighted → Assignment → ℕ → Bool
+abbrev pub order_value_in : ℕ → List WorkingTerm → Assignment → ℕ → Bool
 order_value_in c ts a m = nat_le (m % c + 1) (weighed a (take (m / c + 1) ts))
 
 abbrev pub order_value : Working → Assignment → ℕ → Bool

@@ -2,14 +2,14 @@
 use Rattle.std.specs.Prelude.{◌≡◌, true, false, [], ◌∷◌, length, pos, negsuc}
 use Rattle.pb.specs.declared.working.Sense.TheVariants.{AtLeast, Exactly}
 use Rattle.pb.specs.Lines.{Working, empty_line, impossible_line}
-use Rattle.pb.specs.Worked.{at}
+use Rattle.pb.specs.Worked.{working_term}
 use Rattle.cnf.specs.Clauses.{of_literals}
 use Rattle.encode.specs.DirectWorked.{of_ones}
 use Rattle.encode.specs.Order.{order_list, order_reach}
 
 -- 2·1 + 1·2 at least 2
 abbrev pub two_terms : Working
-two_terms = record { sense = AtLeast; bound = 2; terms = at 2 (pos 1) ∷ at 1 (pos 2) ∷ [] }
+two_terms = record { sense = AtLeast; bound = 2; terms = working_term 2 (pos 1) ∷ working_term 1 (pos 2) ∷ [] }
 
 pub record OrderWorkedCases : Type 0 where
   -- its auxiliaries are 3 and 4 in the first row, and 5 and 6 in the second

@@ -2,9 +2,9 @@
 ghost use Rattle.std.specs.Prelude.{◌≡◌};
 ghost use Rattle.encode.specs.declared.encode_fault.EncodeFault.TheVariants.{Sheet};
 
-use fault::sheet::SheetFault;
+use cnf::sheet_fault::SheetFault;
 
-#[derive(Clone, Copy, PartialEq, Debug)]
+#[derive(Clone, Copy, PartialEq, Eq, Debug)]
 pub enum EncodeFault {
     // the line is out of the encoder's reach
     Reach,

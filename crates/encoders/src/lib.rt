@@ -1,5 +1,7 @@
+// Encoders: direct, order, and one made of two, which goes by a line's terms.
 #![tactic(auto)]
 
-// The encoders' worked cases, their reach and their refusals, run on real sheets.
-#[cfg(test)]
-mod tests;
+pub mod choice;
+pub mod direct;
+pub mod order;
+mod part;

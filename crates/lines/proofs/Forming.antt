@@ -3,22 +3,22 @@ use Rattle.std.proofs.Common.{◌≡◌, ℕ, ◌+◌, ◌<◌, ◌≤◌, List,
 use Rattle.std.proofs.lemmas.Int.{ints}
 use Rattle.std.proofs.lemmas.Bool.{le-leb}
 use Rattle.pb.specs.declared.working.Sense.{Sense}
-use Rattle.pb.specs.declared.working.Weighted.{Weighted}
+use Rattle.pb.specs.declared.working.WorkingTerm.{WorkingTerm}
 use Rattle.pb.specs.Lines.{Line, Working, entered_line, impossible_line, line_in}
-use Rattle.pb.specs.Checks.{line_check, Sound}
+use Rattle.pb.specs.Checks.{line_check, PassesChecks}
 use Rattle.pb.specs.Normal.{sense_of, negated, threshold, net, lowered, gathered, raised, floored, normal}
 use Rattle.pb.specs.Meaning.{met}
-use Rattle.pb.specs.Proper.{Proper}
+use Rattle.pb.specs.WorkingForm.{IsNormal}
 use Rattle.pb.proofs.Gathered.{gathered_same, raised_same, gathered_few, gathered_light, raised_light}
-use Rattle.pb.proofs.Fairness.{fair_terms, lowered_within}
+use Rattle.pb.proofs.Ranges.{terms_in_range, lowered_within}
 use Rattle.pb.proofs.Keeping.{normal_keeps}
-use Rattle.pb.proofs.Normalizing.{normal_proper, threshold_within}
-use Rattle.pb.specs.declared.working.Head.{Head}
+use Rattle.pb.proofs.Normalizing.{normal_is_normal, threshold_within}
+use Rattle.pb.specs.declared.working.WorkingHead.{WorkingHead}
 use Rattle.lines.specs.declared.nets.Nets.{Nets}
 use Rattle.lines.specs.Nets.{at, NetsOf}
 use Rattle.lines.specs.Forms.{Formed}
 
-checked_from_sound : (n : ℕ) (l : Line) → Sound n l → line_check n l ≡ None
+checked_from_sound : (n : ℕ) (l : Line) → PassesChecks n l → line_check n l ≡ None
 checked_from_sound n l h =
     let bounded = le-leb (nat_abs l.bound) 1000000 h.bounded in
     let few = le-leb (length l.terms) 64 h.few in
@@ -37,11 +37,11 @@ module _ (n : ℕ) (l : Line) (table : List ℤ) (known : n ≤ 256) (tabled : N
   pub gathered_from_few : length (gathered n 1 (at table)) ≤ length l.terms
   gathered_from_few = rw gathered_from (gathered_few n 1 (negated l.relation) l.terms)
 
-  pub raised_from_light : Sound n l → raised n 1 (at table) ≤ 640000
+  pub raised_from_light : PassesChecks n l → raised n 1 (at table) ≤ 640000
   raised_from_light s =
       let same = raised_from in
       let low = raised_light n 1 (net (negated l.relation) l.terms) in
-      let light = gathered_light n 1 n (negated l.relation) l.terms (fair_terms n n 1 l.terms (omega arith) s.fine) in
+      let light = gathered_light n 1 n (negated l.relation) l.terms (terms_in_range n n 1 l.terms (omega arith) s.fine) in
       let few = s.few in
       omega arith
 
@@ -50,20 +50,20 @@ module _ (n : ℕ) (l : Line) (table : List ℤ) (known : n ≤ 256) (tabled : N
     normal_from : normal n l ≡ floored s z (gathered n 1 (at table))
     normal_from = rw (d, e, raised_from, gathered_from) refl
 
-    pub normal_met : (m : ℕ) → ((ts : List Weighted) → floored s z ts ≡ record { sense = s; bound = m; terms = ts }) → (ts : List Weighted) → ts ≡ gathered n 1 (at table) → normal n l ≡ record { sense = s; bound = m; terms = ts }
-    normal_met m h ts t = normal_from ∙ h (gathered n 1 (at table)) ∙ ap (λ (us : List Weighted). let w : Working = record { sense = s; bound = m; terms = us } in w) (sym t)
+    pub normal_met : (m : ℕ) → ((ts : List WorkingTerm) → floored s z ts ≡ record { sense = s; bound = m; terms = ts }) → (ts : List WorkingTerm) → ts ≡ gathered n 1 (at table) → normal n l ≡ record { sense = s; bound = m; terms = ts }
+    normal_met m h ts t = normal_from ∙ h (gathered n 1 (at table)) ∙ ap (λ (us : List WorkingTerm). let w : Working = record { sense = s; bound = m; terms = us } in w) (sym t)
 
-    pub normal_unmet : ((ts : List Weighted) → floored s z ts ≡ impossible_line) → normal n l ≡ impossible_line
+    pub normal_unmet : ((ts : List WorkingTerm) → floored s z ts ≡ impossible_line) → normal n l ≡ impossible_line
     normal_unmet h = normal_from ∙ h (gathered n 1 (at table))
 
 -- what else an answer says follows from its being the normal form
-pub formed : (n : ℕ) (l : Line) (f : Head) (before after : List Weighted) → Sound n l → normal n l ≡ line_in f after → f.count ≤ length l.terms → drop f.count after ≡ drop f.count before → Formed n l f before after
+pub formed : (n : ℕ) (l : Line) (f : WorkingHead) (before after : List WorkingTerm) → PassesChecks n l → normal n l ≡ line_in f after → f.count ≤ length l.terms → drop f.count after ≡ drop f.count before → Formed n l f before after
 formed n l f before after s e few beyond =
     record {
       sound = checked_from_sound n l s;
       form_is = e;
       meaning = λ a. ap (met a) (sym e) ∙ normal_keeps n l s a;
-      proper = subst (Proper n) e (normal_proper n l s).0;
+      is_normal = subst (IsNormal n) e (normal_is_normal n l s).0;
       few = few;
       beyond = beyond;
     }
@@ -79,7 +79,7 @@ module _ (nets : Nets) (n : ℕ) (l : Line) (m : nets.variables.count ≡ n) (sa
       let s = nets.sound in
       let most = threshold_within nets.line.relation nets.line.bound s.bounded in
       let own : b ≡ threshold nets.line.relation nets.line.bound = from ∙ ap (λ (k : Line). threshold k.relation k.bound) (sym same) in
-      let fair = fair_terms nets.variables.count 256 1 nets.line.terms.now nets.variables.few s.fine in
+      let fair = terms_in_range nets.variables.count 256 1 nets.line.terms.now nets.variables.few s.fine in
       let least = lowered_within 256 (negated nets.line.relation) nets.line.terms.now s.few fair in
       (omega (arith, ints), omega (arith, ints))
 

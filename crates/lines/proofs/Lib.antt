@@ -3,3 +3,8 @@ mod Netting
 mod Gathering
 mod Writing
 mod Forming
+mod Chains
+mod Each
+mod Gcd
+mod Keeping
+mod Quotients

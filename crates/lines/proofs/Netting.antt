@@ -8,9 +8,9 @@ use Rattle.std.proofs.lemmas.Int.{ints}
 use Rattle.std.proofs.lemmas.Bool.{cases_eq}
 use Rattle.std.proofs.lemmas.Bool.Decides.{nat_tests}
 use Rattle.pb.specs.declared.term.Term.{Term}
-use Rattle.pb.specs.Checks.{Fair}
+use Rattle.pb.specs.Checks.{IsTermInRange}
 use Rattle.pb.specs.Normal.{share, net, lowered}
-use Rattle.pb.proofs.Fairness.{share_on_other, net_within, lowered_within}
+use Rattle.pb.proofs.Ranges.{share_on_other, net_within, lowered_within}
 use Rattle.lines.specs.Nets.{at}
 
 -- a weight as it counts for the literal's variable
@@ -43,14 +43,14 @@ turned_above (negsuc l) w h = grind arith
 few_left : (i : ℕ) (ts : List Term) → length ts ≤ 64 → length (drop i ts) ≤ 64
 few_left i ts few = simp length-drop (omega arith)
 
-pub net_so_far : (b : Bool) (ts : List Term) (i v : ℕ) (x : ℤ) → length ts ≤ 64 → AllByRecursion (Fair 256) ts → x +ℤ net b (drop i ts) v ≡ net b ts v → nat_abs x ≤ 1280000
+pub net_so_far : (b : Bool) (ts : List Term) (i v : ℕ) (x : ℤ) → length ts ≤ 64 → AllByRecursion (IsTermInRange 256) ts → x +ℤ net b (drop i ts) v ≡ net b ts v → nat_abs x ≤ 1280000
 net_so_far b ts i v x few h e =
     let all = net_within 256 b ts v few h in
-    let left = net_within 256 b (drop i ts) v (few_left i ts few) (All-drop (Fair 256) i ts h) in
+    let left = net_within 256 b (drop i ts) v (few_left i ts few) (All-drop (IsTermInRange 256) i ts h) in
     omega (arith, ints)
 
-pub lowered_so_far : (b : Bool) (ts : List Term) (i : ℕ) (x : ℤ) → length ts ≤ 64 → AllByRecursion (Fair 256) ts → x +ℤ lowered b (drop i ts) ≡ lowered b ts → nat_abs x ≤ 1280000
+pub lowered_so_far : (b : Bool) (ts : List Term) (i : ℕ) (x : ℤ) → length ts ≤ 64 → AllByRecursion (IsTermInRange 256) ts → x +ℤ lowered b (drop i ts) ≡ lowered b ts → nat_abs x ≤ 1280000
 lowered_so_far b ts i x few h e =
     let all = lowered_within 256 b ts few h in
-    let left = lowered_within 256 b (drop i ts) (few_left i ts few) (All-drop (Fair 256) i ts h) in
+    let left = lowered_within 256 b (drop i ts) (few_left i ts few) (All-drop (IsTermInRange 256) i ts h) in
     omega (arith, ints)

@@ -1,18 +1,18 @@
 -- A lent table of 64 places that takes the terms of a normal form, one variable on.
 use Rattle.std.proofs.Common.{◌≡◌, ℕ, ◌+◌, ◌-◌, ◌<◌, ◌≤◌, List, [], ◌∷◌, ◌++◌, length, take, drop, set, ℤ, sym, ap, ◌∙◌, arith}
 use Rattle.std.proofs.lemmas.List.{length-set, append-nil, append_assoc, length-append, length-take-le, take_more_set, drop-set-lt, drop-drop}
-use Rattle.pb.specs.declared.working.Weighted.{Weighted}
+use Rattle.pb.specs.declared.working.WorkingTerm.{WorkingTerm}
 use Rattle.pb.specs.Normal.{term_of, gathered}
 use Rattle.lines.proofs.Gathering.{gathered_more, gathered_past}
 
 -- what is written so far, with the terms of the variables from v to n, is all that is gathered; beyond lies what was there
-pub record Written (n v : ℕ) (f : ℕ → ℤ) (count : ℕ) (form before : List Weighted) : Type 0 where
+pub record Written (n v : ℕ) (f : ℕ → ℤ) (count : ℕ) (form before : List WorkingTerm) : Type 0 where
   pub long : length form ≡ 64
   pub within : count ≤ 64
   pub so_far : take count form ++ gathered (n + 1 - v) v f ≡ gathered n 1 f
   pub beyond : drop count form ≡ drop count before
 
-module _ (n v : ℕ) (f : ℕ → ℤ) (count : ℕ) (form before : List Weighted) (h : Written n v f count form before) where
+module _ (n v : ℕ) (f : ℕ → ℤ) (count : ℕ) (form before : List WorkingTerm) (h : Written n v f count form before) where
   pub written_none : v ≤ n → term_of v (f v) ≡ [] → Written n (v + 1) f count form before
   written_none low e =
       record {
@@ -22,7 +22,7 @@ module _ (n v : ℕ) (f : ℕ → ℤ) (count : ℕ) (form before : List Weighte
         beyond = h.beyond;
       }
 
-  pub written_room : v ≤ n → length (gathered n 1 f) ≤ 64 → (t : Weighted) → term_of v (f v) ≡ t ∷ [] → count < 64
+  pub written_room : v ≤ n → length (gathered n 1 f) ≤ 64 → (t : WorkingTerm) → term_of v (f v) ≡ t ∷ [] → count < 64
   written_room low few t e =
       let w = h.within in
       let long = h.long in
@@ -32,7 +32,7 @@ module _ (n v : ℕ) (f : ℕ → ℤ) (count : ℕ) (form before : List Weighte
       let sum = length-append (take count form) (t ∷ gathered (n + 1 - (v + 1)) (v + 1) f) in
       omega arith
 
-  pub written_one : v ≤ n → count < 64 → (t : Weighted) → term_of v (f v) ≡ t ∷ [] → Written n (v + 1) f (count + 1) (set form count t) before
+  pub written_one : v ≤ n → count < 64 → (t : WorkingTerm) → term_of v (f v) ≡ t ∷ [] → Written n (v + 1) f (count + 1) (set form count t) before
   written_one low room t e =
       let rest = gathered (n + 1 - (v + 1)) (v + 1) f in
       let next : gathered (n + 1 - v) v f ≡ t ∷ rest = gathered_more n v f low ∙ ap (λ ts. ts ++ rest) e in

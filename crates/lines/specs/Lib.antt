@@ -1,2 +1,3 @@
 pub mod Nets
 pub mod Forms
+pub mod Tables

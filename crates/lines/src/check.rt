@@ -2,7 +2,7 @@
 ghost use Rattle.std.specs.Prelude.{◌≡◌, Some, None, MatchResult};
 ghost use Rattle.pb.specs.Checks.{sized, checked_head, terms_fault};
 
-use fault::line::LineFault;
+use pb::line_fault::LineFault;
 use pb::relation::Relation;
 use pb::term::Term;
 use pb::variables::Variables;
@@ -14,7 +14,7 @@ const MOST_TERMS: usize = 64;
 const MOST_WEIGHT: u32 = 10_000;
 
 // The relation of a line by its number, where its bound and the number of its terms are in range.
-// Kept: the number as it is read, since a number that has no relation is refused here, in the order of the faults.
+// the number as it is read, since a number that has no relation is refused here, in the order of the faults.
 pub fn check_head(relation: u8, bound: i32, terms: usize) -> Result<Relation, LineFault>
     ensures { result ≡ checked_head relation bound terms }
 {

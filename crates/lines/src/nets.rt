@@ -1,6 +1,6 @@
 // The net weights of a line's variables, and what a normal form takes from them.
 ghost use Rattle.std.specs.Prelude.{◌≡◌, ℕ, ◌≤◌, [], ◌∷◌, length, take, drop, pos, ◌+ℤ◌, ◌≢◌, unsigned_abs};
-ghost use Rattle.pb.specs.Checks.{Fair, Sound};
+ghost use Rattle.pb.specs.Checks.{IsTermInRange, PassesChecks};
 ghost use Rattle.pb.specs.Lines.{entered_line};
 ghost use Rattle.pb.specs.Normal.{negated, weight_under, share, lowering, lowered, raise_of, raised, term_of, gathered};
 ghost use Rattle.lines.specs.Nets.{at, NetsOf, Within};
@@ -9,7 +9,7 @@ use pb::constraint::Constraint;
 use pb::relation::Relation;
 use pb::term::Term;
 use pb::variables::Variables;
-use pb::working::Weighted;
+use pb::working::WorkingTerm;
 
 // The net weights of a line that nothing is wrong with, each at its variable's number, and how far
 // the terms on complements lower the bound.
@@ -17,17 +17,17 @@ use pb::working::Weighted;
 pub(crate) struct Nets<'a> {
     variables: Variables,
     line: Constraint<'a>,
-    // Kept: one place for each number that a variable may have, and no heap.
+    // one place for each number that a variable may have, and no heap.
     table: [i32; 257],
     lowered_by: i32,
-    ghost sound: { Sound variables.count (entered_line line) },
+    ghost sound: { PassesChecks variables.count (entered_line line) },
     ghost tabled: { NetsOf (negated line.relation) line.terms.now table },
     ghost summed: { lowered_by ≡ lowered (negated line.relation) line.terms.now },
 }
 
 impl<'a> Nets<'a> {
     pub(crate) fn new(variables: Variables, line: Constraint<'a>) -> Nets<'a>
-        requires { Sound variables.count (entered_line line) }
+        requires { PassesChecks variables.count (entered_line line) }
         ensures variables { result.variables ≡ variables }
         ensures line { entered_line result.line ≡ entered_line line.entry }
     {
@@ -63,8 +63,8 @@ impl<'a> Nets<'a> {
 
     // Writes the terms of the variables whose net weight is not 0, by rising variable, and answers
     // how many they are.
-    // Kept: the count is the answer; tried `(1..=last).zip(..)` over the table's part: which number and entry a turn of a range beside a slice has, and so the loop's step, did not close.
-    pub(crate) fn gather(&self, form: &mut [Weighted; 64]) -> usize
+    // the count is the answer; tried `(1..=last).zip(..)` over the table's part: which number and entry a turn of a range beside a slice has, and so the loop's step, did not close.
+    pub(crate) fn gather(&self, form: &mut [WorkingTerm; 64]) -> usize
         ensures number { result ≡ length (gathered self.now.variables.count 1 (at self.now.table)) }
         ensures terms { take result form.new ≡ gathered self.now.variables.count 1 (at self.now.table) }
         ensures rest { drop result form.new ≡ drop result form.old }
@@ -94,7 +94,7 @@ fn is_negated(relation: Relation) -> bool
 // A weight on a complement is one of the opposite sign on the variable, and lowers the bound, by as
 // much as the answer says.
 fn add_term(negate: bool, term: Term, table: &mut [i32; 257]) -> i32
-    requires fair { Fair 256 term }
+    requires fair { IsTermInRange 256 term }
     requires within { Within 1280000 table.old }
     ensures sum { result ≡ lowering term.literal (weight_under negate term) }
     ensures table { (v : ℕ) → at table.new v ≡ at table.old v +ℤ share v term.literal (weight_under negate term) }
@@ -110,7 +110,7 @@ fn add_term(negate: bool, term: Term, table: &mut [i32; 257]) -> i32
 }
 
 // The weight of a term, negated if asked.
-// Kept: a bool in weight_of and add_term, since the definitions negate by this same one.
+// a bool in weight_of and add_term, since the definitions negate by this same one.
 fn weight_of(negate: bool, term: Term) -> i32
     requires { unsigned_abs term.weight ≤ 10000 }
     ensures { result ≡ weight_under negate term }
@@ -126,12 +126,12 @@ fn raise_by(net: i32) -> u32
 }
 
 // The term of a variable with this net weight: one on its complement where that is negative.
-fn term_from(variable: u16, net: i32) -> Weighted
+fn term_from(variable: u16, net: i32) -> WorkingTerm
     requires { (variable ≤ 256) × (net ≢ pos 0) }
     ensures { term_of variable net ≡ result ∷ [] }
 {
     let literal = variable as i16;
-    Weighted {
+    WorkingTerm {
         weight: net.unsigned_abs(),
         literal: if net < 0 { -literal } else { literal },
     }

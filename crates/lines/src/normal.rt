@@ -1,25 +1,25 @@
 // The normal form of a line: "at least" or "exactly", a bound that is not negative, and for each
 // variable at most one term, of positive weight, by rising variable.
 ghost use Rattle.std.specs.Prelude.{◌≡◌, ◌≤◌, MatchResult, unsigned_abs};
-ghost use Rattle.pb.specs.Checks.{Sound};
+ghost use Rattle.pb.specs.Checks.{PassesChecks};
 ghost use Rattle.pb.specs.Lines.{entered_line};
 ghost use Rattle.pb.specs.Normal.{threshold};
 ghost use Rattle.lines.specs.Forms.{Formed, Refused, Floor};
 
 use crate::check::{check_size, check_terms};
 use crate::nets::Nets;
-use fault::line::LineFault;
 use pb::constraint::Constraint;
+use pb::line_fault::LineFault;
 use pb::relation::Relation;
 use pb::variables::Variables;
-use pb::working::{Head, Sense, Weighted};
+use pb::working::{Sense, WorkingHead, WorkingTerm};
 
 // Checks a line and writes the terms of its normal form into the table.
 pub fn normal_form(
     variables: Variables,
     line: Constraint<'_>,
-    form: &mut [Weighted; 64],
-) -> Result<Head, LineFault>
+    form: &mut [WorkingTerm; 64],
+) -> Result<WorkingHead, LineFault>
     ensures { MatchResult result
         (λ f. Formed variables.count (entered_line line.entry) f form.old form.new)
         (λ e. Refused variables.count (entered_line line.entry) e form.old form.new) }
@@ -30,18 +30,18 @@ pub fn normal_form(
 }
 
 // The normal form of a line that nothing is wrong with.
-fn form_of(variables: Variables, line: Constraint<'_>, form: &mut [Weighted; 64]) -> Head
-    requires { Sound variables.count (entered_line line) }
+fn form_of(variables: Variables, line: Constraint<'_>, form: &mut [WorkingTerm; 64]) -> WorkingHead
+    requires { PassesChecks variables.count (entered_line line) }
     ensures { Formed variables.count (entered_line line.entry) result form.old form.new }
 {
     let nets = Nets::new(variables, line);
     let sense = Sense::from(line.relation);
     let bound = bound_from(line.relation, line.bound) - nets.lowered() + nets.raised() as i32;
     let Some(bound) = floor(sense, bound) else {
-        return Head::IMPOSSIBLE;
+        return WorkingHead::IMPOSSIBLE;
     };
     let count = nets.gather(form);
-    Head {
+    WorkingHead {
         sense,
         bound,
         count,

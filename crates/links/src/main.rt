@@ -5,7 +5,7 @@ use output::{INPUT, print};
 use std::io;
 use std::io::Read;
 
-// Kept: beside the other program's, since the input is read here: no library takes memory from the heap.
+// beside the other program's, since the input is read here: no library takes memory from the heap.
 fn main(rt: HostRuntime) -> io::Result<()> {
     let mut file = Vec::new(rt.alloc());
     // more is not looked at

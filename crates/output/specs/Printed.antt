@@ -1,7 +1,7 @@
 -- The clause text of a schedule file: of its first 8,192 bytes, the text of at most 4,000 clauses, in so many bytes.
 use Rattle.std.specs.Prelude.{◌≡◌, ℕ, List, [], length, max, take, Some, Ok, Result}
 use Rattle.fault.specs.declared.refusal.Refusal.{Refusal}
-use Rattle.cnf.specs.Calls.{Rule, capped}
+use Rattle.cnf.specs.Calls.{Rule, limited_to}
 use Rattle.cnf.specs.Clauses.{Clause}
 use Rattle.cnf.specs.Layouts.{has_room}
 use Rattle.cnf.specs.Text.{text_layout, text_of, read_text}
@@ -11,11 +11,11 @@ use Rattle.translate.specs.Translation.{Progress, encoding, translation}
 
 -- a sheet that holds these clauses takes up to 4,000
 abbrev pub limited : Rule → List Clause → Rule
-limited fits held = capped (max 4000 (length held)) fits
+limited fits held = limited_to (max 4000 (length held)) fits
 
 -- what comes of a file where so many bytes are lent
 abbrev pub text_outcome : ℕ → List ℕ → Result Progress Refusal
-text_outcome room file = translation encoding (capped 4000 (has_room text_layout room)) [] (take 8192 file)
+text_outcome room file = translation encoding (limited_to 4000 (has_room text_layout room)) [] (take 8192 file)
 
 -- the text shows the file's clauses and reads back as just these, they mean the file's lines, and the header's two numbers
 -- are true

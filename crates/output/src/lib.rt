@@ -9,13 +9,13 @@ ghost use Rattle.translate.specs.Translation.{Done, encoding, translation};
 mod cases;
 
 pub use cases::print_cases;
-use ceiling::Ceiling;
 use cnf::sheet::Sheet;
 use fault::refusal::Refusal;
+use sheets::ceiling::Ceiling;
+use sheets::finished::{FinishedText, finish};
+use sheets::text::TextSheet;
 use std::io;
 use std::io::Write;
-use text::finished::{FinishedText, finish};
-use text::sheet::TextSheet;
 use translate::header::Header;
 use translate::translate;
 
@@ -54,7 +54,7 @@ pub fn clause_text<'a>(
 
 // Prints what comes of a file. No contract can say what is printed: it is what `clause_text` answers.
 pub fn print(rt: &HostRuntime, file: &[u8]) -> io::Result<()> {
-    // Kept: an array of the most bytes, since a sheet writes to memory that it is lent, and no library takes any from the heap.
+    // an array of the most bytes, since a sheet writes to memory that it is lent, and no library takes any from the heap.
     let mut bytes = [0; TEXT];
     match clause_text(file, &mut bytes) {
         Ok((header, text)) => {

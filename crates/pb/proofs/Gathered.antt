@@ -1,17 +1,17 @@
 -- What is gathered and raised from net weights depends only on those of the variables at hand; the terms gathered from a
--- line's net weights are proper, no more than the line has, and weigh no more than these.
+-- line's net weights are in normal form, no more than the line has, and weigh no more than these.
 use Rattle.std.proofs.Common.{◌≡◌, ℕ, zero, suc, ◌+◌, ◌*◌, ◌<◌, ◌≤◌, Bool, true, ◌≢◌, List, [], ◌∷◌, ◌++◌, length, ℤ, pos, negsuc, nat_abs, refl, ap, inl, inr, arith}
 use Rattle.std.specs.List.{AllByRecursion}
 use Rattle.std.proofs.lemmas.List.{length-append}
 use Rattle.std.proofs.lemmas.Int.{ints}
 use Rattle.std.proofs.lemmas.Bool.{cases_eq, le-leb, lt-ltb}
 use Rattle.pb.specs.declared.term.Term.{Term}
-use Rattle.pb.specs.declared.working.Weighted.{Weighted}
-use Rattle.pb.specs.Checks.{Fair}
+use Rattle.pb.specs.declared.working.WorkingTerm.{WorkingTerm}
+use Rattle.pb.specs.Checks.{IsTermInRange}
 use Rattle.pb.specs.Normal.{weight_under, net, term_of, raise_of, gathered, raised}
 use Rattle.pb.specs.Sums.{weight_sum}
-use Rattle.pb.specs.Proper.{proper_terms}
-use Rattle.pb.proofs.Fairness.{share_on_other, share_small, under_small}
+use Rattle.pb.specs.WorkingForm.{normal_terms}
+use Rattle.pb.proofs.Ranges.{share_on_other, share_small, under_small}
 
 -- two functions that agree on the k variables from v on
 abbrev Agree : ℕ → ℕ → (ℕ → ℤ) → (ℕ → ℤ) → Type 0
@@ -76,7 +76,7 @@ term_weight v (pos zero) = refl
 term_weight v (pos (suc p)) = omega arith
 term_weight v (negsuc p) = omega arith
 
-weight_append : (xs ys : List Weighted) → weight_sum (xs ++ ys) ≡ weight_sum xs + weight_sum ys
+weight_append : (xs ys : List WorkingTerm) → weight_sum (xs ++ ys) ≡ weight_sum xs + weight_sum ys
 weight_append [] ys = omega arith
 weight_append (x ∷ xs) ys = let e = weight_append xs ys in omega arith
 
@@ -103,7 +103,7 @@ weight_near (suc k) v u d f g h m =
           omega arith
     ]
 
-pub gathered_light : (n v m : ℕ) (b : Bool) (ts : List Term) → AllByRecursion (Fair m) ts → weight_sum (gathered n v (net b ts)) ≤ 10000 * length ts
+pub gathered_light : (n v m : ℕ) (b : Bool) (ts : List Term) → AllByRecursion (IsTermInRange m) ts → weight_sum (gathered n v (net b ts)) ≤ 10000 * length ts
 gathered_light n v m b [] h = let e = ap weight_sum (gathered_none n v) in omega arith
 gathered_light n v m b (t ∷ ts) h =
     let u = nat_abs t.literal in
@@ -126,13 +126,13 @@ raised_light (suc k) v f =
     let rest = raised_light k (suc v) f in
     omega arith
 
--- the term of a variable above `below`, before terms that are proper above that variable, or above what lies below it
-proper_more : (n below v : ℕ) (z : ℤ) (ts : List Weighted) → below < v → v ≤ n → ((low : ℕ) → low < suc v → proper_terms n low ts ≡ true) → proper_terms n below (term_of v z ++ ts) ≡ true
-proper_more n below zero z ts h m rest = absurd (omega arith)
-proper_more n below (suc v) (pos zero) ts h m rest = rest below (omega arith)
-proper_more n below (suc v) (pos (suc p)) ts h m rest = rw (lt-ltb 0 (suc p) (omega arith), lt-ltb below (suc v) h, le-leb (suc v) n m) (rest (suc v) (omega arith))
-proper_more n below (suc v) (negsuc p) ts h m rest = rw (lt-ltb 0 (suc p) (omega arith), lt-ltb below (suc v) h, le-leb (suc v) n m) (rest (suc v) (omega arith))
+-- the term of a variable above `below`, before terms that are in normal form above that variable, or above what lies below it
+normal_more : (n below v : ℕ) (z : ℤ) (ts : List WorkingTerm) → below < v → v ≤ n → ((low : ℕ) → low < suc v → normal_terms n low ts ≡ true) → normal_terms n below (term_of v z ++ ts) ≡ true
+normal_more n below zero z ts h m rest = absurd (omega arith)
+normal_more n below (suc v) (pos zero) ts h m rest = rest below (omega arith)
+normal_more n below (suc v) (pos (suc p)) ts h m rest = rw (lt-ltb 0 (suc p) (omega arith), lt-ltb below (suc v) h, le-leb (suc v) n m) (rest (suc v) (omega arith))
+normal_more n below (suc v) (negsuc p) ts h m rest = rw (lt-ltb 0 (suc p) (omega arith), lt-ltb below (suc v) h, le-leb (suc v) n m) (rest (suc v) (omega arith))
 
-pub gathered_proper : (n k v : ℕ) (f : ℕ → ℤ) → v + k ≤ suc n → (below : ℕ) → below < v → proper_terms n below (gathered k v f) ≡ true
-gathered_proper n zero v f most below h = refl
-gathered_proper n (suc k) v f most below h = proper_more n below v (f v) (gathered k (suc v) f) h (omega arith) (gathered_proper n k (suc v) f (omega arith))
+pub gathered_is_normal : (n k v : ℕ) (f : ℕ → ℤ) → v + k ≤ suc n → (below : ℕ) → below < v → normal_terms n below (gathered k v f) ≡ true
+gathered_is_normal n zero v f most below h = refl
+gathered_is_normal n (suc k) v f most below h = normal_more n below v (f v) (gathered k (suc v) f) h (omega arith) (gathered_is_normal n k (suc v) f (omega arith))

@@ -10,11 +10,11 @@ use Rattle.pb.specs.declared.relation.Relation.TheVariants.{AtLeast, AtMost, Exa
 use Rattle.pb.specs.declared.term.Term.{Term}
 use Rattle.pb.specs.declared.working.Sense.{Sense}
 use Rattle.pb.specs.declared.working.Sense.TheVariants.{AtLeast as LeastOf, Exactly as Just}
-use Rattle.pb.specs.declared.working.Weighted.{Weighted}
-use Rattle.pb.specs.Checks.{Fair}
+use Rattle.pb.specs.declared.working.WorkingTerm.{WorkingTerm}
+use Rattle.pb.specs.Checks.{IsTermInRange}
 use Rattle.pb.specs.Normal.{sense_of, negated, threshold, weight_under, share, net, lowered, gathered, raised, floored}
 use Rattle.pb.specs.Meaning.{Assignment, holds, total, stands, weighed, met, NormalKeeps}
-use Rattle.pb.proofs.Fairness.{fair_terms}
+use Rattle.pb.proofs.Ranges.{terms_in_range}
 use Rattle.pb.proofs.Spreads.{spread, spread_plus, spread_none, spread_share, weighed_gathered}
 
 -- the total, with every weight negated or not
@@ -44,7 +44,7 @@ counted_total b a (t ∷ ts) =
     let both = signed_plus b (cond (holds a t.literal) t.weight (pos 0)) (total a ts) in
     omega (arith, ints)
 
-counted_net : (n : ℕ) (b : Bool) (a : Assignment) (ts : List Term) → AllByRecursion (Fair n) ts → counted b a ts ≡ spread n 1 (net b ts) a +ℤ lowered b ts
+counted_net : (n : ℕ) (b : Bool) (a : Assignment) (ts : List Term) → AllByRecursion (IsTermInRange n) ts → counted b a ts ≡ spread n 1 (net b ts) a +ℤ lowered b ts
 counted_net n b a [] h = let e = spread_none n 1 a in omega (arith, ints)
 counted_net n b a (t ∷ ts) h =
     let shares : ℕ → ℤ = λ u. share u t.literal (weight_under b t) in
@@ -66,13 +66,13 @@ compared_signed MoreThan t b = grind (arith, ints)
 compared_signed LessThan t b = grind (arith, ints)
 
 -- a bound z may take the place of the threshold c if the terms weigh as far above z as t is above c
-met_floored : (a : Assignment) (s : Sense) (ts : List Weighted) (z t c : ℤ) → pos (weighed a ts) -ℤ z ≡ t -ℤ c → met a (floored s z ts) ≡ compared s t c
+met_floored : (a : Assignment) (s : Sense) (ts : List WorkingTerm) (z t c : ℤ) → pos (weighed a ts) -ℤ z ≡ t -ℤ c → met a (floored s z ts) ≡ compared s t c
 met_floored a LeastOf ts (pos m) t c h = grind (arith, ints, nat_tests)
 met_floored a LeastOf ts (negsuc m) t c h = grind (arith, ints, nat_tests)
 met_floored a Just ts (pos m) t c h = grind (arith, ints, nat_tests)
 met_floored a Just ts (negsuc m) t c h = grind (arith, ints, nat_tests)
 
-met_counted : (n : ℕ) (a : Assignment) (s : Sense) (b : Bool) (ts : List Term) (c : ℤ) → AllByRecursion (Fair n) ts → met a (floored s ((c -ℤ lowered b ts) +ℤ pos (raised n 1 (net b ts))) (gathered n 1 (net b ts))) ≡ compared s (counted b a ts) c
+met_counted : (n : ℕ) (a : Assignment) (s : Sense) (b : Bool) (ts : List Term) (c : ℤ) → AllByRecursion (IsTermInRange n) ts → met a (floored s ((c -ℤ lowered b ts) +ℤ pos (raised n 1 (net b ts))) (gathered n 1 (net b ts))) ≡ compared s (counted b a ts) c
 met_counted n a s b ts c h =
     let e = counted_net n b a ts h in
     let d = weighed_gathered n 1 (net b ts) a (omega arith) in
@@ -83,6 +83,6 @@ normal_keeps n l s a =
     let r = l.relation in
     let b = negated r in
     let c = threshold r l.bound in
-    met_counted n a (sense_of r) b l.terms c (fair_terms n n 1 l.terms (omega arith) s.fine)
+    met_counted n a (sense_of r) b l.terms c (terms_in_range n n 1 l.terms (omega arith) s.fine)
     ∙ ap (λ t. compared (sense_of r) t c) (counted_total b a l.terms)
     ∙ compared_signed r (total a l.terms) l.bound

@@ -1,5 +1,5 @@
 mod Spreads
-pub mod Fairness
+pub mod Ranges
 pub mod Gathered
 pub mod Keeping
 pub mod Normalizing

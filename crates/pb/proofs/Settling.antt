@@ -6,14 +6,14 @@ use Rattle.std.specs.List.{AllByRecursion}
 use Rattle.std.proofs.lemmas.Bool.{leb-true, ltb-true, ltb-false, le-ltb, eqb-true}
 use Rattle.pb.specs.declared.working.Sense.{Sense}
 use Rattle.pb.specs.declared.working.Sense.TheVariants.{AtLeast, Exactly}
-use Rattle.pb.specs.declared.working.Weighted.{Weighted}
+use Rattle.pb.specs.declared.working.WorkingTerm.{WorkingTerm}
 use Rattle.pb.specs.Sums.{weight_sum}
 use Rattle.pb.specs.Meaning.{Assignment, holds, weighed, reaches}
-use Rattle.pb.specs.Proper.{proper_terms}
+use Rattle.pb.specs.WorkingForm.{normal_terms}
 use Rattle.pb.specs.Settled.{forced_least, forced_exactly, forced_by, Unforced}
-use Rattle.pb.specs.Laws.{ForcedHolds, ForcedNone, ForcedNamed}
-use Rattle.pb.proofs.Firsts.{proper_first}
-pub use Rattle.pb.proofs.Reducing.{reduced_keeps, reduced_proper}
+use Rattle.pb.specs.Laws.{ForcedHolds, ForcedNone, ForcedInRange}
+use Rattle.pb.proofs.Firsts.{normal_first}
+pub use Rattle.pb.proofs.Reducing.{reduced_keeps, reduced_is_normal}
 
 -- the first of two answers, or the second
 either_found : (b : Bool) (x l : ℤ) (o : Option ℤ) → cond b (Some x) o ≡ Some l → ((b ≡ true) × (x ≡ l)) ⊎ (o ≡ Some l)
@@ -48,7 +48,7 @@ counted_most : (b : Bool) (w : ℕ) → cond b w 0 ≤ w
 counted_most true w = omega arith
 counted_most false w = omega arith
 
-weighed_most : (a : Assignment) (ts : List Weighted) → weighed a ts ≤ weight_sum ts
+weighed_most : (a : Assignment) (ts : List WorkingTerm) → weighed a ts ≤ weight_sum ts
 weighed_most a [] = omega arith
 weighed_most a (t ∷ ts) =
     let e = weighed_most a ts in
@@ -65,7 +65,7 @@ above_not true w x k h e = absurd (omega (arith, ltb-true _ _ e))
 above_not false w x k h e = refl
 
 -- along the terms: of a line that comes to `reached`, no more is missing among the terms left than from the whole sum
-least_holds : (a : Assignment) (sum k reached : ℕ) (ts : List Weighted) (l : ℤ) → reached + weight_sum ts ≤ sum + weighed a ts → k ≤ reached → forced_least sum k ts ≡ Some l → holds a l ≡ true
+least_holds : (a : Assignment) (sum k reached : ℕ) (ts : List WorkingTerm) (l : ℤ) → reached + weight_sum ts ≤ sum + weighed a ts → k ≤ reached → forced_least sum k ts ≡ Some l → holds a l ≡ true
 least_holds a sum k reached [] l m q h = absurd (none_found l h)
 least_holds a sum k reached (t ∷ ts) l m q h =
     let e = weighed_most a ts in
@@ -76,10 +76,10 @@ least_holds a sum k reached (t ∷ ts) l m q h =
     ]
 
 -- and of an "exactly" line no more is weighed among the terms left than its bound
-exactly_holds : (a : Assignment) (n below sum k : ℕ) (ts : List Weighted) (l : ℤ) → proper_terms n below ts ≡ true → k + weight_sum ts ≤ sum + weighed a ts → weighed a ts ≤ k → forced_exactly sum k ts ≡ Some l → holds a l ≡ true
+exactly_holds : (a : Assignment) (n below sum k : ℕ) (ts : List WorkingTerm) (l : ℤ) → normal_terms n below ts ≡ true → k + weight_sum ts ≤ sum + weighed a ts → weighed a ts ≤ k → forced_exactly sum k ts ≡ Some l → holds a l ≡ true
 exactly_holds a n below sum k [] l g m q h = absurd (none_found l h)
 exactly_holds a n below sum k (t ∷ ts) l g m q h =
-    let f = proper_first n below t ts g in
+    let f = normal_first n below t ts g in
     let e = weighed_most a ts in
     let d = counted_most (holds a t.literal) t.weight in
     let o = forced_exactly sum k ts in
@@ -92,7 +92,7 @@ exactly_holds a n below sum k (t ∷ ts) l g m q h =
       ]
     ]
 
-by_holds : (s : Sense) (a : Assignment) (n k : ℕ) (ts : List Weighted) (l : ℤ) → proper_terms n 0 ts ≡ true → reaches s (weighed a ts) k ≡ true → forced_by s (weight_sum ts) k ts ≡ Some l → holds a l ≡ true
+by_holds : (s : Sense) (a : Assignment) (n k : ℕ) (ts : List WorkingTerm) (l : ℤ) → normal_terms n 0 ts ≡ true → reaches s (weighed a ts) k ≡ true → forced_by s (weight_sum ts) k ts ≡ Some l → holds a l ≡ true
 by_holds AtLeast a n k ts l g m h = least_holds a (weight_sum ts) k (weighed a ts) ts l (omega arith) (leb-true _ _ m) h
 by_holds Exactly a n k ts l g m h =
     let e = eqb-true (weighed a ts) k m in
@@ -102,19 +102,19 @@ pub forced_holds : ForcedHolds
 forced_holds n w l g h a m = by_holds w.sense a n w.bound w.terms l g.terms_are m (reached_found (ltb (weight_sum w.terms) w.bound) l _ h)
 
 -- a literal of one of the variables 1 to n
-least_named : (n below sum k : ℕ) (ts : List Weighted) (l : ℤ) → proper_terms n below ts ≡ true → forced_least sum k ts ≡ Some l → (0 < nat_abs l) × (nat_abs l ≤ n)
+least_named : (n below sum k : ℕ) (ts : List WorkingTerm) (l : ℤ) → normal_terms n below ts ≡ true → forced_least sum k ts ≡ Some l → (0 < nat_abs l) × (nat_abs l ≤ n)
 least_named n below sum k [] l g h = absurd (none_found l h)
 least_named n below sum k (t ∷ ts) l g h =
-    let f = proper_first n below t ts g in
+    let f = normal_first n below t ts g in
     elim (either_found (ltb (sum - t.weight) k) t.literal l (forced_least sum k ts) h) [
       | inl p ↦ let e = ap nat_abs p.1 in (omega arith, omega arith)
       | inr p ↦ least_named n (nat_abs t.literal) sum k ts l f.rest p
     ]
 
-exactly_named : (n below sum k : ℕ) (ts : List Weighted) (l : ℤ) → proper_terms n below ts ≡ true → forced_exactly sum k ts ≡ Some l → (0 < nat_abs l) × (nat_abs l ≤ n)
+exactly_named : (n below sum k : ℕ) (ts : List WorkingTerm) (l : ℤ) → normal_terms n below ts ≡ true → forced_exactly sum k ts ≡ Some l → (0 < nat_abs l) × (nat_abs l ≤ n)
 exactly_named n below sum k [] l g h = absurd (none_found l h)
 exactly_named n below sum k (t ∷ ts) l g h =
-    let f = proper_first n below t ts g in
+    let f = normal_first n below t ts g in
     let o = forced_exactly sum k ts in
     let c = variable_of_complement t.literal in
     elim (either_found (ltb k t.weight) (neg_ℤ t.literal) l (cond (ltb (sum - t.weight) k) (Some t.literal) o) h) [
@@ -125,20 +125,20 @@ exactly_named n below sum k (t ∷ ts) l g h =
       ]
     ]
 
-by_named : (s : Sense) (n sum k : ℕ) (ts : List Weighted) (l : ℤ) → proper_terms n 0 ts ≡ true → forced_by s sum k ts ≡ Some l → (0 < nat_abs l) × (nat_abs l ≤ n)
+by_named : (s : Sense) (n sum k : ℕ) (ts : List WorkingTerm) (l : ℤ) → normal_terms n 0 ts ≡ true → forced_by s sum k ts ≡ Some l → (0 < nat_abs l) × (nat_abs l ≤ n)
 by_named AtLeast n sum k ts l g h = least_named n 0 sum k ts l g h
 by_named Exactly n sum k ts l g h = exactly_named n 0 sum k ts l g h
 
-pub forced_named : ForcedNamed
+pub forced_named : ForcedInRange
 forced_named n w l g h = by_named w.sense n (weight_sum w.terms) w.bound w.terms l g.terms_are (reached_found (ltb (weight_sum w.terms) w.bound) l _ h)
 
-least_none : (sum k : ℕ) (ts : List Weighted) → forced_least sum k ts ≡ None → AllByRecursion (Unforced AtLeast sum k) ts
+least_none : (sum k : ℕ) (ts : List WorkingTerm) → forced_least sum k ts ≡ None → AllByRecursion (Unforced AtLeast sum k) ts
 least_none sum k [] h = tt
 least_none sum k (t ∷ ts) h =
     let p = neither_found (ltb (sum - t.weight) k) t.literal (forced_least sum k ts) h in
     (ltb-false _ _ p.0, least_none sum k ts p.1)
 
-exactly_none : (sum k : ℕ) (ts : List Weighted) → forced_exactly sum k ts ≡ None → AllByRecursion (Unforced Exactly sum k) ts
+exactly_none : (sum k : ℕ) (ts : List WorkingTerm) → forced_exactly sum k ts ≡ None → AllByRecursion (Unforced Exactly sum k) ts
 exactly_none sum k [] h = tt
 exactly_none sum k (t ∷ ts) h =
     let o = forced_exactly sum k ts in
@@ -149,7 +149,7 @@ exactly_none sum k (t ∷ ts) h =
 none_reached : (sum k : ℕ) (o : Option ℤ) → k ≤ sum → cond (ltb sum k) None o ≡ None → o ≡ None
 none_reached sum k o g h = rw (le-ltb sum k g) at h
 
-by_none : (s : Sense) (sum k : ℕ) (ts : List Weighted) → forced_by s sum k ts ≡ None → AllByRecursion (Unforced s sum k) ts
+by_none : (s : Sense) (sum k : ℕ) (ts : List WorkingTerm) → forced_by s sum k ts ≡ None → AllByRecursion (Unforced s sum k) ts
 by_none AtLeast sum k ts h = least_none sum k ts h
 by_none Exactly sum k ts h = exactly_none sum k ts h
 

@@ -5,7 +5,7 @@ use Rattle.std.proofs.lemmas.Int.{ints}
 use Rattle.std.proofs.lemmas.Bool.{ne_eqb, eq-eqb, cases_eq}
 use Rattle.pb.specs.Normal.{share, lowering, term_of, raise_of, gathered, raised}
 use Rattle.pb.specs.Meaning.{Assignment, holds, weighed}
-use Rattle.pb.specs.declared.working.Weighted.{Weighted}
+use Rattle.pb.specs.declared.working.WorkingTerm.{WorkingTerm}
 
 -- the sum of f over those of the k variables from v on that are true
 abbrev pub spread : ℕ → ℕ → (ℕ → ℤ) → Assignment → ℤ
@@ -75,7 +75,7 @@ spread_share k v (negsuc l) w a h g =
     let d = cond_opposite (a (suc l)) w in
     omega (arith, ints)
 
-weighed_append : (a : Assignment) (xs ys : List Weighted) → weighed a (xs ++ ys) ≡ weighed a xs + weighed a ys
+weighed_append : (a : Assignment) (xs ys : List WorkingTerm) → weighed a (xs ++ ys) ≡ weighed a xs + weighed a ys
 weighed_append a [] ys = omega arith
 weighed_append a (x ∷ xs) ys = let e = weighed_append a xs ys in omega arith
 

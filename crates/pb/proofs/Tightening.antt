@@ -1,4 +1,4 @@
--- Tightening a line changes no assignment's verdict and keeps the line proper; it leaves neither weights above the
+-- Tightening a line changes no assignment's verdict and keeps the line in normal form; it leaves neither weights above the
 -- bound of "at least" nor a common divisor, so that to tighten twice is to tighten once.
 use Rattle.std.proofs.Common.{◌≡◌, ℕ, ◌+◌, ◌*◌, ◌/◌, ◌%◌, ◌<◌, ◌≤◌, true, false, ◌&&◌, eqb, ltb, leb, ◌⊎◌, List, [], length, sym, refl, ap, ◌∙◌, subst, inl, inr, div-le_self, le_of_mul-le-mul_right, arith}
 use Prim.Native.Nat.{◌∣◌}
@@ -8,16 +8,16 @@ use Rattle.std.proofs.lemmas.Bool.{ne_eqb, le-ltb, eq-eqb, and_right}
 use Rattle.std.proofs.lemmas.Bool.Decides.{nat_tests}
 use Rattle.pb.specs.declared.working.Sense.{Sense}
 use Rattle.pb.specs.declared.working.Sense.TheVariants.{AtLeast, Exactly}
-use Rattle.pb.specs.declared.working.Weighted.{Weighted}
+use Rattle.pb.specs.declared.working.WorkingTerm.{WorkingTerm}
 use Rattle.pb.specs.Lines.{Working}
 use Rattle.pb.specs.Meaning.{Assignment, weighed, reaches, met}
 use Rattle.pb.specs.Sums.{weight_sum}
-use Rattle.pb.specs.Proper.{Proper}
-use Rattle.pb.specs.Tightened.{divisor_of, saturated, divided, over, divided_least, tightened_least, tightened_exactly, tightened}
-use Rattle.pb.specs.Laws.{TightenKeeps, TightenProper, TightenLeaves, TightenOnce}
+use Rattle.pb.specs.WorkingForm.{IsNormal}
+use Rattle.pb.specs.Tightened.{divisor_of, saturated, divided, div_ceil, divided_least, tightened_least, tightened_exactly, tightened}
+use Rattle.pb.specs.Laws.{TightenKeeps, TightenIsNormal, TightenIsTight, TightenOnce}
 use Rattle.pb.proofs.Divisors.{over_least, over_reached, over_positive, over_falls, Common, Positive, divisor_common, divisor_positive, divisor_divided}
 use Rattle.pb.proofs.Outcomes.{line, parts, Tight, always, no_terms, beyond, apart, least, exact, some_terms, tight}
-use Rattle.pb.proofs.Scaling.{weighed_below, weighed_saturated, sum_saturated, length_saturated, saturated_positive, saturated_within, saturated_same, weighed_divided, sum_divided, sum_divided_below, length_divided, divided_positive, divided_within, divided_one, proper_positive, proper_saturated, proper_divided}
+use Rattle.pb.proofs.Scaling.{weighed_below, weighed_saturated, sum_saturated, length_saturated, saturated_positive, saturated_within, saturated_same, weighed_divided, sum_divided, sum_divided_below, length_divided, divided_positive, divided_within, divided_one, normal_positive, normal_saturated, normal_divided}
 
 same_leb : (m n k l : ℕ) → (m ≤ n → k ≤ l) → (k ≤ l → m ≤ n) → leb m n ≡ leb k l
 same_leb m n k l f g = grind (arith, nat_tests)
@@ -26,16 +26,16 @@ same_eqb : (m n k l : ℕ) → (m ≡ n → k ≡ l) → (k ≡ l → m ≡ n) �
 same_eqb m n k l f g = grind (arith, nat_tests)
 
 -- dividing changes no verdict
-met_least : (a : Assignment) (k : ℕ) (ts : List Weighted) → 0 < divisor_of ts → met a (divided_least k ts) ≡ leb k (weighed a ts)
+met_least : (a : Assignment) (k : ℕ) (ts : List WorkingTerm) → 0 < divisor_of ts → met a (divided_least k ts) ≡ leb k (weighed a ts)
 met_least a k ts h =
     let d = divisor_of ts in
     let x = weighed a (divided d ts) in
     let e = weighed_divided a d ts (divisor_common ts) in
-    same_leb (over k d) x k (weighed a ts)
+    same_leb (div_ceil k d) x k (weighed a ts)
     (λ p. let q = over_least k d x h p in omega arith)
     (λ p. over_reached k d x h (omega arith))
 
-met_parts : (a : Assignment) (k d : ℕ) (ts : List Weighted) → 0 < d → Common d ts → d ∣ k → met a (parts d k ts) ≡ eqb (weighed a ts) k
+met_parts : (a : Assignment) (k d : ℕ) (ts : List WorkingTerm) → 0 < d → Common d ts → d ∣ k → met a (parts d k ts) ≡ eqb (weighed a ts) k
 met_parts a k d ts h g c =
     let x = weighed a (divided d ts) in
     let e = weighed_divided a d ts g in
@@ -45,25 +45,25 @@ met_parts a k d ts h g c =
     (λ p. eq_of_mul-eq-mul_right d h x (k / d) (sym e ∙ p ∙ sym f))
 
 -- a line without terms; a saturated line; a divided line
-bare_proper : (n m b : ℕ) → b ≤ 1 → Proper n (line AtLeast b []) × (length (line AtLeast b []).terms ≤ m)
-bare_proper n m b h = (record { terms_are = refl; few = omega arith; light = omega arith; near = omega arith }, omega arith)
+bare_is_normal : (n m b : ℕ) → b ≤ 1 → IsNormal n (line AtLeast b []) × (length (line AtLeast b []).terms ≤ m)
+bare_is_normal n m b h = (record { terms_are = refl; few = omega arith; light = omega arith; near = omega arith }, omega arith)
 
-saturated_proper : (n k : ℕ) (ts : List Weighted) → 0 < k → Proper n (line AtLeast k ts) → Proper n (line AtLeast k (saturated k ts))
-saturated_proper n k ts l p =
+saturated_is_normal : (n k : ℕ) (ts : List WorkingTerm) → 0 < k → IsNormal n (line AtLeast k ts) → IsNormal n (line AtLeast k (saturated k ts))
+saturated_is_normal n k ts l p =
     let e = length_saturated k ts in
     let s = sum_saturated k ts in
-    record { terms_are = proper_saturated n 0 k ts l p.terms_are; few = omega arith; light = omega arith; near = p.near }
+    record { terms_are = normal_saturated n 0 k ts l p.terms_are; few = omega arith; light = omega arith; near = p.near }
 
-divided_proper : (n k j : ℕ) (s : Sense) (ts : List Weighted) → j ≤ k → Proper n (line s k ts) → Proper n (line s j (divided (divisor_of ts) ts))
-divided_proper n k j s ts l p =
+divided_is_normal : (n k j : ℕ) (s : Sense) (ts : List WorkingTerm) → j ≤ k → IsNormal n (line s k ts) → IsNormal n (line s j (divided (divisor_of ts) ts))
+divided_is_normal n k j s ts l p =
     let d = divisor_of ts in
     let e = length_divided d ts in
     let b = sum_divided_below d ts in
-    let positive = divided_positive d ts (divisor_common ts) (proper_positive n 0 ts p.terms_are) in
-    record { terms_are = proper_divided n 0 d ts positive p.terms_are; few = omega arith; light = omega arith; near = omega arith }
+    let positive = divided_positive d ts (divisor_common ts) (normal_positive n 0 ts p.terms_are) in
+    record { terms_are = normal_divided n 0 d ts positive p.terms_are; few = omega arith; light = omega arith; near = omega arith }
 
 -- a line that has nothing left to saturate or to divide stays as it is
-least_again : (k : ℕ) (ts : List Weighted) → 0 < k → k ≤ weight_sum ts → AllByRecursion (λ t. t.weight ≤ k) ts → divisor_of ts ≡ 1 → tightened_least k ts ≡ line AtLeast k ts
+least_again : (k : ℕ) (ts : List WorkingTerm) → 0 < k → k ≤ weight_sum ts → AllByRecursion (λ t. t.weight ≤ k) ts → divisor_of ts ≡ 1 → tightened_least k ts ≡ line AtLeast k ts
 least_again k ts l h w d =
     let z : eqb k 0 ≡ false = ne_eqb k 0 (λ e. omega arith) in
     let c : ltb (weight_sum ts) k ≡ false = le-ltb _ _ h in
@@ -72,7 +72,7 @@ least_again k ts l h w d =
     let g : (k + 0) / 1 ≡ k = omega arith in
     rw (z, c, e, d, f, g)
 
-exactly_again : (k : ℕ) (ts : List Weighted) → 0 < length ts → k ≤ weight_sum ts → divisor_of ts ≡ 1 → tightened_exactly k ts ≡ line Exactly k ts
+exactly_again : (k : ℕ) (ts : List WorkingTerm) → 0 < length ts → k ≤ weight_sum ts → divisor_of ts ≡ 1 → tightened_exactly k ts ≡ line Exactly k ts
 exactly_again k ts l h d =
     let z : (eqb k 0 && eqb (length ts) 0) ≡ false = and_right _ _ (ne_eqb (length ts) 0 (λ e. omega arith)) in
     let c : ltb (weight_sum ts) k ≡ false = le-ltb _ _ h in
@@ -88,7 +88,7 @@ never_least : Exactly ≡ AtLeast → ⊥
 never_least h = let z : ◌≡◌ {A = ℕ} 0 1 = cc in omega arith
 
 -- each law, outcome by outcome
-module _ (k : ℕ) (ts : List Weighted) (positive : Positive ts) where
+module _ (k : ℕ) (ts : List WorkingTerm) (positive : Positive ts) where
   saturated_divisor : 0 < k → k ≤ weight_sum ts → 0 < divisor_of (saturated k ts)
   saturated_divisor l h =
       let e = length_saturated k ts in
@@ -110,21 +110,21 @@ module _ (k : ℕ) (ts : List Weighted) (positive : Positive ts) where
       ∙ same_leb k (weighed a (saturated k ts)) k (weighed a ts) (λ q. omega arith) (λ q. omega arith)
   keeps (exact l h c) a = met_parts a k (divisor_of ts) ts (divisor_positive ts positive l) (divisor_common ts) c
 
-  stays_proper : {s : Sense} {v : Working} → Tight k ts s v → (n : ℕ) → Proper n (line s k ts) → Proper n v × (length v.terms ≤ length ts)
-  stays_proper (always e) n p = bare_proper n (length ts) 0 (omega arith)
-  stays_proper (no_terms e l) n p = bare_proper n (length ts) 0 (omega arith)
-  stays_proper (beyond s h) n p = bare_proper n (length ts) 1 (omega arith)
-  stays_proper (apart h) n p = bare_proper n (length ts) 1 (omega arith)
-  stays_proper (least l h) n p =
+  stays_normal : {s : Sense} {v : Working} → Tight k ts s v → (n : ℕ) → IsNormal n (line s k ts) → IsNormal n v × (length v.terms ≤ length ts)
+  stays_normal (always e) n p = bare_is_normal n (length ts) 0 (omega arith)
+  stays_normal (no_terms e l) n p = bare_is_normal n (length ts) 0 (omega arith)
+  stays_normal (beyond s h) n p = bare_is_normal n (length ts) 1 (omega arith)
+  stays_normal (apart h) n p = bare_is_normal n (length ts) 1 (omega arith)
+  stays_normal (least l h) n p =
       let us = saturated k ts in
       let d = divisor_of us in
       let e = length_saturated k ts in
       let f = length_divided d us in
-      (divided_proper n k (over k d) AtLeast us (over_falls k d (saturated_divisor l h)) (saturated_proper n k ts l p), omega arith)
-  stays_proper (exact l h c) n p =
+      (divided_is_normal n k (div_ceil k d) AtLeast us (over_falls k d (saturated_divisor l h)) (saturated_is_normal n k ts l p), omega arith)
+  stays_normal (exact l h c) n p =
       let d = divisor_of ts in
       let f = length_divided d ts in
-      (divided_proper n k (k / d) Exactly ts (div-le_self k d) p, omega arith)
+      (divided_is_normal n k (k / d) Exactly ts (div-le_self k d) p, omega arith)
 
   leaves : {s : Sense} {v : Working} → Tight k ts s v → Left v
   leaves (always e) = (λ x. inr refl, λ x. tt)
@@ -149,7 +149,7 @@ module _ (k : ℕ) (ts : List Weighted) (positive : Positive ts) where
       let c = divisor_common us in
       let e = sum_divided d us c in
       let b = sum_saturated k ts in
-      least_again (over k d) (divided d us)
+      least_again (div_ceil k d) (divided d us)
       (over_positive k d l some)
       (over_reached k d (weight_sum (divided d us)) some (omega arith))
       (divided_within k d us some c (saturated_within k ts))
@@ -163,16 +163,16 @@ module _ (k : ℕ) (ts : List Weighted) (positive : Positive ts) where
       let r : k / d * d ≤ weight_sum (divided d ts) * d = omega arith in
       exactly_again (k / d) (divided d ts) (omega arith) (le_of_mul-le-mul_right r some) (divisor_divided ts some)
 
-positive_of : (n : ℕ) (w : Working) → Proper n w → Positive w.terms
-positive_of n w p = proper_positive n 0 w.terms p.terms_are
+positive_of : (n : ℕ) (w : Working) → IsNormal n w → Positive w.terms
+positive_of n w p = normal_positive n 0 w.terms p.terms_are
 
 pub tighten_keeps : TightenKeeps
 tighten_keeps n w p a = keeps w.bound w.terms (positive_of n w p) (tight w) a
 
-pub tighten_proper : TightenProper
-tighten_proper n w p = stays_proper w.bound w.terms (positive_of n w p) (tight w) n p
+pub tighten_is_normal : TightenIsNormal
+tighten_is_normal n w p = stays_normal w.bound w.terms (positive_of n w p) (tight w) n p
 
-pub tighten_leaves : TightenLeaves
+pub tighten_leaves : TightenIsTight
 tighten_leaves n w p = leaves w.bound w.terms (positive_of n w p) (tight w)
 
 pub tighten_once : TightenOnce

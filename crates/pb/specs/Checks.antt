@@ -2,8 +2,8 @@
 -- term's literal and weight.
 use Rattle.std.specs.Prelude.{◌≡◌, ℕ, suc, ◌<◌, ◌≤◌, Bool, cond, ◌&&◌, List, [], ◌∷◌, length, ℤ, Some, None, Ok, Err, Option, Result, ◌==◌, nat_le, nat_lt, unsigned_abs}
 use Rattle.std.specs.Option.{ok_or}
-use Rattle.fault.specs.declared.line.LineFault.{LineFault}
-use Rattle.fault.specs.declared.line.LineFault.TheVariants.{Relation as BadRelation, Bound as BadBound, Terms as TooMany, Literal as BadLiteral, Weight as BadWeight}
+use Rattle.pb.specs.declared.line_fault.LineFault.{LineFault}
+use Rattle.pb.specs.declared.line_fault.LineFault.TheVariants.{Relation as BadRelation, Bound as BadBound, Terms as TooMany, Literal as BadLiteral, Weight as BadWeight}
 use Rattle.pb.specs.declared.relation.Relation.{Relation}
 use Rattle.pb.specs.declared.relation.Relation.TheVariants.{AtLeast, AtMost, Exactly, MoreThan, LessThan}
 use Rattle.pb.specs.declared.term.Term.{Term}
@@ -54,11 +54,11 @@ abbrev pub line_check : ℕ → Line → Option LineFault
 line_check n l = cond (nat_le (unsigned_abs l.bound) 1000000) (cond (nat_le (length l.terms) 64) (terms_fault n 1 l.terms) (Some TooMany)) (Some BadBound)
 
 -- a line that nothing is wrong with, in a job of n variables
-pub record Sound (n : ℕ) (l : Line) : Type 0 where
+pub record PassesChecks (n : ℕ) (l : Line) : Type 0 where
   pub bounded : unsigned_abs l.bound ≤ 1000000
   pub few : length l.terms ≤ 64
   pub fine : terms_fault n 1 l.terms ≡ None
 
 -- a term of one of the variables 1 to n, of a weight in range
-abbrev pub Fair : ℕ → Term → Type 0
-Fair n t = (0 < unsigned_abs t.literal) × (unsigned_abs t.literal ≤ n) × (unsigned_abs t.weight ≤ 10000)
+abbrev pub IsTermInRange : ℕ → Term → Type 0
+IsTermInRange n t = (0 < unsigned_abs t.literal) × (unsigned_abs t.literal ≤ n) × (unsigned_abs t.weight ≤ 10000)

@@ -3,7 +3,7 @@ pub mod Checks
 pub mod Normal
 pub mod Meaning
 pub mod Sums
-pub mod Proper
+pub mod WorkingForm
 pub mod Tightened
 pub mod Settled
 pub mod Laws

@@ -5,9 +5,9 @@ use Rattle.pb.specs.declared.relation.Relation.TheVariants.{AtLeast, AtMost, Exa
 use Rattle.pb.specs.declared.term.Term.{Term}
 use Rattle.pb.specs.declared.working.Sense.{Sense}
 use Rattle.pb.specs.declared.working.Sense.TheVariants.{AtLeast as LeastOf, Exactly as Just}
-use Rattle.pb.specs.declared.working.Weighted.{Weighted}
+use Rattle.pb.specs.declared.working.WorkingTerm.{WorkingTerm}
 use Rattle.pb.specs.Lines.{Line, Working}
-use Rattle.pb.specs.Checks.{Sound}
+use Rattle.pb.specs.Checks.{PassesChecks}
 use Rattle.pb.specs.Normal.{normal}
 
 -- an assignment gives each variable true or false
@@ -37,7 +37,7 @@ abbrev pub meets : Assignment → Line → Bool
 meets a l = stands l.relation (total a l.terms) l.bound
 
 -- the same of working lines, whose weights and bounds are not negative
-abbrev pub weighed : Assignment → List Weighted → ℕ
+abbrev pub weighed : Assignment → List WorkingTerm → ℕ
 weighed a [] = 0
 weighed a (t ∷ ts) = cond (holds a t.literal) t.weight 0 + weighed a ts
 
@@ -50,4 +50,4 @@ met a w = reaches w.sense (weighed a w.terms) w.bound
 
 -- the normal form of a line is met by just the assignments that meet the line
 abbrev pub NormalKeeps : Type 0
-NormalKeeps = (n : ℕ) (l : Line) → Sound n l → (a : Assignment) → met a (normal n l) ≡ meets a l
+NormalKeeps = (n : ℕ) (l : Line) → PassesChecks n l → (a : Assignment) → met a (normal n l) ≡ meets a l

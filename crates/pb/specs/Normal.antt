@@ -6,7 +6,7 @@ use Rattle.pb.specs.declared.relation.Relation.TheVariants.{AtLeast, AtMost, Exa
 use Rattle.pb.specs.declared.term.Term.{Term}
 use Rattle.pb.specs.declared.working.Sense.{Sense}
 use Rattle.pb.specs.declared.working.Sense.TheVariants.{AtLeast as LeastOf, Exactly as Just}
-use Rattle.pb.specs.declared.working.Weighted.{Weighted}
+use Rattle.pb.specs.declared.working.WorkingTerm.{WorkingTerm}
 use Rattle.pb.specs.Lines.{Line, Working, impossible_line}
 
 -- first the relation: "more than b" is "at least b + 1" and "less than b" is "at most b - 1"; "at most b" is
@@ -56,7 +56,7 @@ lowered n [] = pos 0
 lowered n (t ∷ ts) = lowering t.literal (weight_under n t) +ℤ lowered n ts
 
 -- the term of a variable by its net weight, and how far that raises the bound
-abbrev pub term_of : ℕ → ℤ → List Weighted
+abbrev pub term_of : ℕ → ℤ → List WorkingTerm
 term_of v (pos zero) = []
 term_of v (pos (suc p)) = record { weight = suc p; literal = pos v } ∷ []
 term_of v (negsuc p) = record { weight = suc p; literal = neg_ℤ (pos v) } ∷ []
@@ -66,7 +66,7 @@ raise_of (pos p) = 0
 raise_of (negsuc p) = suc p
 
 -- the terms of so many variables from v on, by their net weights, and how far they raise the bound together
-abbrev pub gathered : ℕ → ℕ → (ℕ → ℤ) → List Weighted
+abbrev pub gathered : ℕ → ℕ → (ℕ → ℤ) → List WorkingTerm
 gathered zero v f = []
 gathered (suc k) v f = term_of v (f v) ++ gathered k (suc v) f
 
@@ -75,7 +75,7 @@ raised zero v f = 0
 raised (suc k) v f = raise_of (f v) + raised k (suc v) f
 
 -- last the bound: below 0, "at least" stops at 0 and "exactly" cannot be met
-abbrev pub floored : Sense → ℤ → List Weighted → Working
+abbrev pub floored : Sense → ℤ → List WorkingTerm → Working
 floored s (pos b) ts = record { sense = s; bound = b; terms = ts }
 floored LeastOf (negsuc b) ts = record { sense = LeastOf; bound = 0; terms = ts }
 floored Just (negsuc b) ts = impossible_line

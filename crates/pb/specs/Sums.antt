@@ -1,7 +1,7 @@
 -- The sum of a working line's weights.
 use Rattle.std.specs.Prelude.{ℕ, ◌+◌, List, [], ◌∷◌}
-use Rattle.pb.specs.declared.working.Weighted.{Weighted}
+use Rattle.pb.specs.declared.working.WorkingTerm.{WorkingTerm}
 
-abbrev pub weight_sum : List Weighted → ℕ
+abbrev pub weight_sum : List WorkingTerm → ℕ
 weight_sum [] = 0
 weight_sum (t ∷ ts) = t.weight + weight_sum ts

@@ -1,7 +1,7 @@
 -- Tightening a working line: smaller weights and a smaller bound that the same assignments meet.
 use Rattle.std.specs.Prelude.{ℕ, zero, suc, ◌+◌, ◌-◌, ◌/◌, ◌%◌, min, cond, ◌&&◌, List, [], ◌∷◌, length, ◌==◌, nat_lt}
 use Rattle.pb.specs.declared.working.Sense.TheVariants.{AtLeast, Exactly}
-use Rattle.pb.specs.declared.working.Weighted.{Weighted}
+use Rattle.pb.specs.declared.working.WorkingTerm.{WorkingTerm}
 use Rattle.pb.specs.Lines.{Working, empty_line, impossible_line}
 use Rattle.pb.specs.Sums.{weight_sum}
 
@@ -16,35 +16,35 @@ abbrev pub gcd : ℕ → ℕ → ℕ
 gcd a b = gcd_steps (suc b) a b
 
 -- the greatest common divisor of the weights, 0 where there are no terms
-abbrev pub divisor_of : List Weighted → ℕ
+abbrev pub divisor_of : List WorkingTerm → ℕ
 divisor_of [] = 0
 divisor_of (t ∷ ts) = gcd t.weight (divisor_of ts)
 
 -- a weight above the bound counts no more than the bound
-abbrev pub saturated : ℕ → List Weighted → List Weighted
+abbrev pub saturated : ℕ → List WorkingTerm → List WorkingTerm
 saturated k [] = []
 saturated k (t ∷ ts) = record { weight = min t.weight k; literal = t.literal } ∷ saturated k ts
 
-abbrev pub divided : ℕ → List Weighted → List Weighted
+abbrev pub divided : ℕ → List WorkingTerm → List WorkingTerm
 divided d [] = []
 divided d (t ∷ ts) = record { weight = t.weight / d; literal = t.literal } ∷ divided d ts
 
 -- division, rounded up
-abbrev pub over : ℕ → ℕ → ℕ
-over k d = (k + (d - 1)) / d
+abbrev pub div_ceil : ℕ → ℕ → ℕ
+div_ceil k d = (k + (d - 1)) / d
 
 -- "at least": each weight above the bound becomes the bound; then weights and bound are divided, the bound rounded up
-abbrev pub divided_least : ℕ → List Weighted → Working
-divided_least k ts = record { sense = AtLeast; bound = over k (divisor_of ts); terms = divided (divisor_of ts) ts }
+abbrev pub divided_least : ℕ → List WorkingTerm → Working
+divided_least k ts = record { sense = AtLeast; bound = div_ceil k (divisor_of ts); terms = divided (divisor_of ts) ts }
 
-abbrev pub tightened_least : ℕ → List Weighted → Working
+abbrev pub tightened_least : ℕ → List WorkingTerm → Working
 tightened_least k ts = cond (k == 0) empty_line (cond (nat_lt (weight_sum ts) k) impossible_line (divided_least k (saturated k ts)))
 
 -- "exactly": weights and bound are divided alone, and where the divisor does not divide the bound no total is it
-abbrev pub divided_exactly : ℕ → List Weighted → Working
+abbrev pub divided_exactly : ℕ → List WorkingTerm → Working
 divided_exactly k ts = cond (k % divisor_of ts == 0) (record { sense = Exactly; bound = k / divisor_of ts; terms = divided (divisor_of ts) ts }) impossible_line
 
-abbrev pub tightened_exactly : ℕ → List Weighted → Working
+abbrev pub tightened_exactly : ℕ → List WorkingTerm → Working
 tightened_exactly k ts = cond (k == 0 && length ts == 0) empty_line (cond (nat_lt (weight_sum ts) k) impossible_line (divided_exactly k ts))
 
 abbrev pub tightened : Working → Working

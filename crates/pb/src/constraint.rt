@@ -2,7 +2,7 @@
 use crate::relation::Relation;
 use crate::term::Term;
 
-// Kept: beside WorkingLine, since each has its own relation and terms, and nothing works on both alike.
+// beside WorkingLine, since each has its own relation and terms, and nothing works on both alike.
 #[derive(Clone, Copy)]
 pub struct Constraint<'a> {
     pub relation: Relation,

@@ -2,6 +2,7 @@
 #![tactic(auto)]
 
 pub mod constraint;
+pub mod line_fault;
 pub mod relation;
 pub mod term;
 pub mod variables;

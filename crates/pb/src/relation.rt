@@ -2,7 +2,7 @@
 ghost use Rattle.std.specs.Prelude.{◌≡◌};
 ghost use Rattle.pb.specs.Checks.{numbered_relation};
 
-use fault::line::LineFault;
+use crate::line_fault::LineFault;
 
 #[derive(Clone, Copy, PartialEq, Debug)]
 pub enum Relation {

@@ -1,10 +1,11 @@
 // How many variables a job has.
-ghost use Rattle.std.specs.Prelude.{◌≡◌, ◌<◌, ◌≤◌, MatchResult};
+ghost use Rattle.std.specs.Prelude.{◌≡◌, ◌<◌, ◌≤◌, MatchOption};
 
-use fault::book::BookFault;
+/// The most variables that a job may have.
+pub const MOST_VARIABLES: u16 = 256;
 
-// 1 to 256 variables, numbered from 1.
-#[derive(Clone, Copy)]
+/// The number of a job's variables, 1 to 256. They are numbered from 1.
+#[derive(Clone, Copy, PartialEq, Eq, Debug)]
 pub struct Variables {
     count: u16,
     ghost some: { 0 < count },
@@ -12,15 +13,17 @@ pub struct Variables {
 }
 
 impl Variables {
-    pub fn new(count: u16) -> Result<Variables, BookFault>
-        ensures { MatchResult result (λ v. v.count ≡ count) (λ e. (e ≡ BookFault.Variables) × ((0 < count) → (count ≤ 256) → ⊥)) }
+    /// So many variables, or nothing where a job cannot have that many.
+    pub fn new(count: u16) -> Option<Variables>
+        ensures { MatchOption result ((0 < count) → (count ≤ 256) → ⊥) (λ v. v.count ≡ count) }
     {
-        if count == 0 || count > 256 {
-            return Err(BookFault::Variables);
+        if count == 0 || count > MOST_VARIABLES {
+            return None;
         }
-        Ok(Variables { count })
+        Some(Variables { count })
     }
 
+    /// How many they are.
     pub fn count(self) -> u16
         ensures { result ≡ self.count }
     {

@@ -25,9 +25,9 @@ impl From<Relation> for Sense {
 }
 
 // A term of a working line.
-// Kept: beside Term, since a weight as entered has a sign and one here has none, and nothing works on both alike.
+// beside Term, since a weight as entered has a sign and one here has none, and nothing works on both alike.
 #[derive(Clone, Copy, PartialEq, Debug)]
-pub struct Weighted {
+pub struct WorkingTerm {
     pub weight: u32,
     pub literal: i16,
 }
@@ -37,29 +37,29 @@ pub struct Weighted {
 pub struct WorkingLine<'a> {
     pub sense: Sense,
     pub bound: u32,
-    pub terms: &'a [Weighted],
+    pub terms: &'a [WorkingTerm],
 }
 
 // A working line but for its terms, which are the first `count` of a lent table.
 #[derive(Clone, Copy)]
-pub struct Head {
+pub struct WorkingHead {
     pub sense: Sense,
     pub bound: u32,
-    // Kept: a count, since the terms are the first of a table that is lent.
+    // a count, since the terms are the first of a table that is lent.
     pub count: usize,
 }
 
 // The two working lines without terms that have a name.
-impl Head {
+impl WorkingHead {
     // At least 0 is met by every assignment.
-    pub const EMPTY: Head = Head {
+    pub const EMPTY: WorkingHead = WorkingHead {
         sense: Sense::AtLeast,
         bound: 0,
         count: 0,
     };
 
     // At least 1 is met by none.
-    pub const IMPOSSIBLE: Head = Head {
+    pub const IMPOSSIBLE: WorkingHead = WorkingHead {
         sense: Sense::AtLeast,
         bound: 1,
         count: 0,

@@ -4,13 +4,13 @@ use Rattle.std.specs.List.{AllByRecursion}
 use Rattle.std.proofs.lemmas.List.{take_at, drop_at}
 use Rattle.std.proofs.lemmas.Bool.{le-leb, lt-ltb}
 use Rattle.std.proofs.lemmas.Bool.Decides.{nat_tests}
-use Rattle.fault.specs.declared.line.LineFault.{LineFault}
-use Rattle.fault.specs.declared.line.LineFault.TheVariants.{Literal as BadLiteral, Weight as BadWeight}
+use Rattle.pb.specs.declared.line_fault.LineFault.{LineFault}
+use Rattle.pb.specs.declared.line_fault.LineFault.TheVariants.{Literal as BadLiteral, Weight as BadWeight}
 use Rattle.pb.specs.declared.relation.Relation.{Relation}
 use Rattle.pb.specs.declared.relation.Relation.TheVariants.{AtLeast, AtMost, Exactly, MoreThan, LessThan}
 use Rattle.pb.specs.declared.term.Term.{Term}
 use Rattle.pb.specs.Lines.{Line}
-use Rattle.pb.specs.Checks.{relation_number, relation_of, checked_head, literal_named, weight_small, terms_fault, Sound}
+use Rattle.pb.specs.Checks.{relation_number, relation_of, checked_head, literal_named, weight_small, terms_fault, PassesChecks}
 use Rattle.schedule.specs.declared.mark.Mark.{Mark}
 use Rattle.schedule.specs.declared.mark.Mark.TheVariants.{Variables, Line as LineMark, Term as TermMark}
 use Rattle.schedule.specs.Records.{first_letter, second_letter, size_of_body, record_body, term_in}
@@ -60,7 +60,7 @@ relation_back Exactly = refl
 relation_back MoreThan = refl
 relation_back LessThan = refl
 
-head_back : (n : ℕ) (l : Line) → Sound n l → checked_head (relation_number l.relation) l.bound (length l.terms) ≡ Ok l.relation
+head_back : (n : ℕ) (l : Line) → PassesChecks n l → checked_head (relation_number l.relation) l.bound (length l.terms) ≡ Ok l.relation
 head_back n l h =
     rw (relation_back l.relation, le-leb (nat_abs l.bound) 1000000 h.bounded, le-leb (length l.terms) 64 h.few)
 
@@ -68,12 +68,12 @@ head_back n l h =
 abbrev line_head : Line → List ℕ
 line_head l = relation_number l.relation ∷ length l.terms ∷ long_bytes (of_z w32 l.bound)
 
-line_back : (n at : ℕ) (l : Line) (rest : List ℕ) → n ≤ 256 → Sound n l → read_line at (line_records l ++ rest) ≡ Ok (Some l)
+line_back : (n at : ℕ) (l : Line) (rest : List ℕ) → n ≤ 256 → PassesChecks n l → read_line at (line_records l ++ rest) ≡ Ok (Some l)
 line_back n at l rest few h =
     let more = term_records l.terms ++ rest in
     rw (record_back LineMark at (line_head l) more refl, signed_long_back l.bound h.bounded, head_back n l h, terms_back l.terms (at + 8) rest (terms_small n 1 l.terms few h.fine))
 
-next_back : (n at : ℕ) (l : Line) (rest : List ℕ) → n ≤ 256 → Sound n l → next_line n at (line_records l ++ rest) ≡ Ok (Some l)
+next_back : (n at : ℕ) (l : Line) (rest : List ℕ) → n ≤ 256 → PassesChecks n l → next_line n at (line_records l ++ rest) ≡ Ok (Some l)
 next_back n at l rest few h = ap (λ r. then r (judged n at)) (line_back n at l rest few h) ∙ ap (line_or_fault at l) h.fine
 
 length_terms : (ts : List Term) → length (term_records ts) ≡ 8 * length ts
@@ -87,7 +87,7 @@ past_line l rest = drop_at (line_records l) rest (line_size l) (omega (arith, le
 abbrev end_record : List ℕ
 end_record = 69 ∷ 78 ∷ []
 
-lines_back : (ls : List Line) (lines terms n held at : ℕ) → n ≤ 256 → AllByRecursion (Sound n) ls → length ls ≤ lines → terms_of ls ≤ terms → read_lines lines terms n held at (lines_records ls ++ end_record) ≡ Ok ls
+lines_back : (ls : List Line) (lines terms n held at : ℕ) → n ≤ 256 → AllByRecursion (PassesChecks n) ls → length ls ≤ lines → terms_of ls ≤ terms → read_lines lines terms n held at (lines_records ls ++ end_record) ≡ Ok ls
 lines_back [] zero terms n held at few h fit room = refl
 lines_back [] (suc lines) terms n held at few h fit room = refl
 lines_back (l ∷ ls) zero terms n held at few h fit room = absurd (omega arith)

@@ -1,8 +1,8 @@
 -- The line that a record of one holds.
 use Rattle.std.specs.Prelude.{take}
 use Rattle.pb.specs.Lines.{Line}
-use Rattle.schedule.specs.declared.line.LineRecord.{LineRecord}
+use Rattle.schedule.specs.declared.line.ReadLine.{ReadLine}
 
 -- of the array, only the first terms are the line's
-abbrev pub line_of : LineRecord → Line
+abbrev pub line_of : ReadLine → Line
 line_of h = record { relation = h.relation; bound = h.bound; terms = take h.count h.terms }

@@ -3,8 +3,8 @@ use Rattle.std.specs.Prelude.{ℕ, zero, suc, ◌+◌, ◌-◌, ◌*◌, cond, �
 use Rattle.fault.specs.declared.book.BookFault.TheVariants.{Variables as BadVariables, Full}
 use Rattle.fault.specs.declared.file.FileFault.{FileFault}
 use Rattle.fault.specs.declared.file.FileFault.TheVariants.{Line as LineAt, Book as BookAt}
-use Rattle.fault.specs.declared.line.LineFault.{LineFault}
-use Rattle.fault.specs.declared.line.LineFault.TheVariants.{Relation as BadRelation, Bound as BadBound, Terms as TooMany, Literal as BadLiteral, Weight as BadWeight}
+use Rattle.pb.specs.declared.line_fault.LineFault.{LineFault}
+use Rattle.pb.specs.declared.line_fault.LineFault.TheVariants.{Relation as BadRelation, Bound as BadBound, Terms as TooMany, Literal as BadLiteral, Weight as BadWeight}
 use Rattle.pb.specs.declared.relation.Relation.{Relation}
 use Rattle.pb.specs.declared.term.Term.{Term}
 use Rattle.pb.specs.Lines.{Line}

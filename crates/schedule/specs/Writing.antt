@@ -5,7 +5,7 @@ use Rattle.std.proofs.Common.{of_z}
 use Rattle.std.specs.List.{AllByRecursion}
 use Rattle.pb.specs.declared.term.Term.{Term}
 use Rattle.pb.specs.Lines.{Line}
-use Rattle.pb.specs.Checks.{relation_number, Sound}
+use Rattle.pb.specs.Checks.{relation_number, PassesChecks}
 use Rattle.schedule.specs.Reading.{Schedule, read_schedule}
 
 -- a number in two and in four bytes, high byte first
@@ -47,7 +47,7 @@ terms_of (l ∷ ls) = length l.terms + terms_of ls
 pub record Takes (lines terms : ℕ) (s : Schedule) : Type 0 where
   pub some : 0 < s.variables
   pub few : s.variables ≤ 256
-  pub sound : AllByRecursion (Sound s.variables) s.lines
+  pub sound : AllByRecursion (PassesChecks s.variables) s.lines
   pub lines_fit : length s.lines ≤ lines
   pub terms_fit : terms_of s.lines ≤ terms
 

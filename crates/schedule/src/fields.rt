@@ -6,27 +6,27 @@ use pb::term::Term;
 
 // What a line's first record says: the relation's number, how many terms there are, and the bound.
 #[derive(Clone, Copy)]
-pub struct Head {
-    // Kept: the number as the file has it, which `check_head` judges before the bound and the count.
+pub struct LineHeader {
+    // the number as the file has it, which `check_head` judges before the bound and the count.
     pub relation: u8,
     pub terms: u8,
     pub bound: i32,
 }
 
 // How many variables the file has.
-// Kept: no From, since neither type is of this crate.
+// no From, since neither type is of this crate.
 pub(crate) fn variables_in(body: [u8; 2]) -> u16
     ensures { result ≡ variables_in body }
 {
     u16::from_be_bytes(body)
 }
 
-impl From<[u8; 6]> for Head {
+impl From<[u8; 6]> for LineHeader {
     ghost from_gives = { λ body r. (r.relation ≡ relation_in body) × (r.terms ≡ terms_in body) × (r.bound ≡ bound_in body) };
 
-    fn from(body: [u8; 6]) -> Head {
+    fn from(body: [u8; 6]) -> LineHeader {
         let [relation, terms, a, b, c, d] = body;
-        Head {
+        LineHeader {
             relation,
             terms,
             bound: i32::from_be_bytes([a, b, c, d]),
@@ -34,7 +34,7 @@ impl From<[u8; 6]> for Head {
     }
 }
 
-// Kept: no From, since neither type is of this crate.
+// no From, since neither type is of this crate.
 pub(crate) fn term_in(body: [u8; 6]) -> Term
     ensures { result ≡ term_in body }
 {

@@ -7,19 +7,19 @@ use pb::relation::Relation;
 use pb::term::Term;
 
 #[derive(Clone, Copy)]
-pub struct LineRecord {
+pub struct ReadLine {
     pub relation: Relation,
     pub bound: i32,
     // where its first record stands in the file
     pub offset: usize,
-    // Kept: an array with its count beside it, since a LineRecord can be copied, as no ArrayVec can.
+    // an array with its count beside it, since a ReadLine can be copied, as no ArrayVec can.
     // only the first `count` of these are the line's
     pub(crate) terms: [Term; 64],
     pub(crate) count: usize,
     ghost few: { count ≤ 64 },
 }
 
-impl LineRecord {
+impl ReadLine {
     ghost use Rattle.schedule.specs.Held.{line_of};
 
     // The line's terms, in the order of the file.

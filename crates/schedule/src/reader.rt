@@ -6,11 +6,12 @@ ghost use Rattle.schedule.specs.Held.{line_of};
 ghost use Rattle.schedule.specs.Writing.{ReadsBack};
 
 use crate::bodies;
-use crate::fields::{Head, term_in, variables_in};
-use crate::line::LineRecord;
+use crate::fields::{LineHeader, term_in, variables_in};
+use crate::line::ReadLine;
 use crate::mark::Mark;
 use crate::record::Record;
-use fault::file::{At, FileFault};
+use fault::book::BookFault;
+use fault::file::{AtOffset, FileFault};
 use lines::check::check_head;
 use pb::term::Term;
 use pb::variables::Variables;
@@ -18,7 +19,7 @@ use pb::variables::Variables;
 #[derive(Drop)]
 pub struct Reader<'a> {
     input: &'a [u8],
-    // Kept: the place beside the input: faults name it, and the contracts say where the reader stands.
+    // the place beside the input: faults name it, and the contracts say where the reader stands.
     // where the next record begins
     at: usize,
     ghost inside: { at ≤ length input.now },
@@ -76,19 +77,18 @@ impl<'a> Reader<'a> {
             (λ e. (read_variables self.old.at (rest_of self.old) ≡ Err e) × ReadOn self.old self.new 0) }
     {
         let record = self.record(Mark::Variables)?;
-        match Variables::new(variables_in(record.bytes())) {
-            Ok(variables) => Ok(variables),
-            Err(fault) => {
-                let offset = record.offset;
-                // back to where it stood
-                self.at = offset;
-                Err(FileFault::from(At { offset, fault }))
-            }
-        }
+        let Some(variables) = Variables::new(variables_in(record.bytes())) else {
+            let offset = record.offset;
+            // back to where it stood
+            self.at = offset;
+            let fault = BookFault::Variables;
+            return Err(FileFault::from(AtOffset { offset, fault }));
+        };
+        Ok(variables)
     }
 
     // The line that begins here, with its terms, or nothing where the file ends here as it should.
-    pub fn line(&mut self) -> Result<Option<LineRecord>, FileFault>
+    pub fn line(&mut self) -> Result<Option<ReadLine>, FileFault>
         ensures cases { MatchResult result
             (λ o. MatchOption o
             ((read_line self.old.at (rest_of self.old) ≡ Ok None) × ReadOn self.old self.new 2)
@@ -104,7 +104,7 @@ impl<'a> Reader<'a> {
     }
 
     // Reads as `line` does, but at a fault the records before it stay read.
-    fn take_line(&mut self) -> Result<Option<LineRecord>, FileFault>
+    fn take_line(&mut self) -> Result<Option<ReadLine>, FileFault>
         ensures cases { MatchResult result
             (λ o. MatchOption o
             ((read_line self.old.at (rest_of self.old) ≡ Ok None) × ReadOn self.old self.new 2)
@@ -115,14 +115,14 @@ impl<'a> Reader<'a> {
             return Ok(None);
         };
         let offset = record.offset;
-        let head = Head::from(record.bytes());
+        let head = LineHeader::from(record.bytes());
         let bound = head.bound;
         let count = head.terms as usize;
         let checked = check_head(head.relation, bound, count);
-        let relation = checked.map_err(|fault| At { offset, fault })?;
+        let relation = checked.map_err(|fault| AtOffset { offset, fault })?;
         let mut terms = [Term::default(); 64];
         self.take_terms(&mut terms[..count])?;
-        Ok(Some(LineRecord {
+        Ok(Some(ReadLine {
             relation,
             bound,
             offset,

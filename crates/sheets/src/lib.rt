@@ -1,7 +1,11 @@
+// Sheets over lent memory, in which the clauses lie one after another: in cells or as text; and a ceiling over any sheet.
 #![tactic(auto)]
 
-// One test of everything a sheet does, run over each sheet and each layer.
-#[cfg(test)]
-mod exercise;
-#[cfg(test)]
-mod tests;
+pub mod ceiling;
+pub mod finished;
+pub mod flat;
+pub mod layout;
+pub mod memory;
+mod reading;
+pub mod text;
+mod writing;

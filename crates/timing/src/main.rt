@@ -2,14 +2,14 @@
 // same in every run, and its time to standard error.
 #![tactic(auto)]
 
-mod encoders;
-mod sheets;
+mod encoder_times;
+mod sheet_times;
 mod watch;
 
-use ceiling::Ceiling;
-use flat::sheet::FlatSheet;
+use sheets::ceiling::Ceiling;
+use sheets::flat::FlatSheet;
+use sheets::text::TextSheet;
 use std::io;
-use text::sheet::TextSheet;
 
 // Room for the fullest sheet, and clauses enough that the ceiling refuses none.
 const CELLS: usize = 3_000_000;
@@ -20,11 +20,11 @@ const CLAUSES: usize = 1_000_000;
 
 fn main(rt: HostRuntime) -> io::Result<()> {
     let mut cells = vec![in rt.alloc(); 0; CELLS]?;
-    sheets::measure_all(&rt, "flat sheet", &mut FlatSheet::new(&mut cells))?;
+    sheet_times::measure_all(&rt, "flat sheet", &mut FlatSheet::new(&mut cells))?;
     let mut bytes = vec![in rt.alloc(); 0; BYTES]?;
-    sheets::measure_all(&rt, "text sheet", &mut TextSheet::new(&mut bytes))?;
+    sheet_times::measure_all(&rt, "text sheet", &mut TextSheet::new(&mut bytes))?;
     let mut text = TextSheet::new(&mut bytes);
     let mut ceiling = Ceiling::new(&mut text, CLAUSES);
-    sheets::measure_all(&rt, "ceiling over a text sheet", &mut ceiling)?;
-    encoders::measure_all(&rt, &mut FlatSheet::new(&mut cells))
+    sheet_times::measure_all(&rt, "ceiling over a text sheet", &mut ceiling)?;
+    encoder_times::measure_all(&rt, &mut FlatSheet::new(&mut cells))
 }

@@ -4,8 +4,8 @@ use Rattle.std.proofs.lemmas.Bool.{le-leb, lt-leb}
 use Rattle.fault.specs.declared.book.BookFault.TheVariants.{Full}
 use Rattle.fault.specs.declared.file.FileFault.{FileFault}
 use Rattle.fault.specs.declared.file.FileFault.TheVariants.{Book as BookAt}
-use Rattle.fault.specs.declared.line.LineFault.{LineFault}
-use Rattle.fault.specs.declared.line.LineFault.TheVariants.{Bound as BadBound, Terms as TooMany}
+use Rattle.pb.specs.declared.line_fault.LineFault.{LineFault}
+use Rattle.pb.specs.declared.line_fault.LineFault.TheVariants.{Bound as BadBound, Terms as TooMany}
 use Rattle.schedule.specs.declared.mark.Mark.TheVariants.{Term as TermMark}
 use Rattle.fault.specs.declared.refusal.Refusal.{Refusal}
 use Rattle.pb.specs.declared.relation.Relation.{Relation}

@@ -1,7 +1,7 @@
 -- A line's fault stands within the line's records, so that its offset fits.
 use Rattle.std.proofs.Common.{◌≡◌, ℕ, suc, ◌+◌, ◌*◌, ◌≤◌, Bool, true, false, cond, leb, List, [], ◌∷◌, length, nat_abs, Some, Option, arith}
-use Rattle.fault.specs.declared.line.LineFault.{LineFault}
-use Rattle.fault.specs.declared.line.LineFault.TheVariants.{Bound as BadBound, Terms as TooMany, Literal as BadLiteral, Weight as BadWeight}
+use Rattle.pb.specs.declared.line_fault.LineFault.{LineFault}
+use Rattle.pb.specs.declared.line_fault.LineFault.TheVariants.{Bound as BadBound, Terms as TooMany, Literal as BadLiteral, Weight as BadWeight}
 use Rattle.pb.specs.declared.term.Term.{Term}
 use Rattle.pb.specs.Lines.{Line}
 use Rattle.pb.specs.Checks.{literal_named, weight_small, terms_fault, line_check}

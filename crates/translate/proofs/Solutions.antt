@@ -9,7 +9,7 @@ use Rattle.cnf.specs.Clauses.{Clause, satisfies_all, literals_within, names_with
 use Rattle.cnf.proofs.Satisfying.{satisfaction}
 use Rattle.encode.specs.Law.{Encoding, InReach, Lawful, named}
 use Rattle.encode.proofs.Modelling.{models_extend}
-use Rattle.pb.specs.Checks.{Sound}
+use Rattle.pb.specs.Checks.{PassesChecks}
 use Rattle.pb.specs.Lines.{Line, Working}
 use Rattle.pb.specs.Meaning.{Assignment, meets, met}
 use Rattle.translate.specs.declared.header.Header.{Header}
@@ -158,7 +158,7 @@ both_written n p m q first next known d e = record {
 }
 
 module _ (e : Encoding) (law : Lawful e) (fits : Rule) (n : ℕ) where
-  line_written : (number : ℕ) (p q : Progress) (l : Line) → Sound n l → n ≤ p.numbers → write_by e fits number p (working_form n l) ≡ Ok q → Written n p q (λ a. meets a l)
+  line_written : (number : ℕ) (p q : Progress) (l : Line) → PassesChecks n l → n ≤ p.numbers → write_by e fits number p (working_form n l) ≡ Ok q → Written n p q (λ a. meets a l)
   line_written number p q l sound known h =
       let w = working_form n l in
       let is = written_ok (e.reach w) (leb (p.numbers + e.takes w) 60000) p q (e.takes w) (e.clauses w (suc p.numbers)) _ _ _ h in

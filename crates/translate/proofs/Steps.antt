@@ -4,8 +4,8 @@ use Rattle.std.proofs.lemmas.List.{drop-drop}
 use Rattle.fault.specs.declared.file.FileFault.{FileFault}
 use Rattle.fault.specs.declared.refusal.Refusal.{Refusal}
 use Rattle.fault.specs.Refusals.{file_refusal}
-use Rattle.pb.specs.declared.working.Head.{Head}
-use Rattle.pb.specs.declared.working.Weighted.{Weighted}
+use Rattle.pb.specs.declared.working.WorkingHead.{WorkingHead}
+use Rattle.pb.specs.declared.working.WorkingTerm.{WorkingTerm}
 use Rattle.pb.specs.declared.variables.Variables.{Variables}
 use Rattle.pb.specs.Lines.{Line, Working}
 use Rattle.pb.specs.Checks.{line_check}
@@ -40,7 +40,7 @@ taken e fits run cs l at rest h fine line_free terms_free =
     ∙ ap (λ k. outcome e fits n (suc k) (then state (λ q. write_by e fits k q (working_form n l))) (read_lines (24 - (run.held + 1)) (run.free - length l.terms) n k (at + line_size l) (drop (line_size l) rest))) next
 
 -- the run after a line of so many terms
-pub goes_on : (e : Encoding) (fits : Rule) (run : Run) (cs ds : List Clause) (l : Line) (at terms : ℕ) (after : Result ℕ Refusal) {f : Head} {form : List Weighted} → Entered l run f form → terms ≡ length l.terms → wrote e fits run cs l ≡ progress after ds → GoesOn e fits run cs (record { variables = run.variables; held = run.held + 1; free = run.free - terms; written = after }) ds at l
+pub goes_on : (e : Encoding) (fits : Rule) (run : Run) (cs ds : List Clause) (l : Line) (at terms : ℕ) (after : Result ℕ Refusal) {f : WorkingHead} {form : List WorkingTerm} → Entered l run f form → terms ≡ length l.terms → wrote e fits run cs l ≡ progress after ds → GoesOn e fits run cs (record { variables = run.variables; held = run.held + 1; free = run.free - terms; written = after }) ds at l
 goes_on e fits run cs ds l at terms after entered many done rest h =
     let n = run.variables.count in
     taken e fits run cs l at rest h entered.fine entered.line_free entered.terms_free

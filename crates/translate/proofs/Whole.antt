@@ -4,15 +4,15 @@ use Rattle.std.proofs.Common.{◌≡◌, ℕ, zero, suc, ◌+◌, ◌≤◌, Boo
 use Rattle.std.proofs.lemmas.Bool.{leb-true}
 use Rattle.std.specs.Result.{is_ok}
 use Rattle.fault.specs.declared.file.FileFault.{FileFault}
-use Rattle.fault.specs.declared.line.LineFault.{LineFault}
-use Rattle.fault.specs.declared.line.LineFault.TheVariants.{Bound as BadBound, Terms as TooMany}
+use Rattle.pb.specs.declared.line_fault.LineFault.{LineFault}
+use Rattle.pb.specs.declared.line_fault.LineFault.TheVariants.{Bound as BadBound, Terms as TooMany}
 use Rattle.fault.specs.declared.refusal.Refusal.{Refusal}
-use Rattle.fault.specs.declared.sheet.SheetFault.{SheetFault}
+use Rattle.cnf.specs.declared.sheet_fault.SheetFault.{SheetFault}
 use Rattle.cnf.specs.Calls.{Rule, Begins, whole_answer}
 use Rattle.cnf.specs.Clauses.{Clause}
-use Rattle.cnf.proofs.Pouring.{all_whole}
+use Rattle.cnf.proofs.GivingEach.{all_whole}
 use Rattle.encode.specs.Law.{Encoding, InReach, Lawful}
-use Rattle.pb.specs.Checks.{Sound, line_check}
+use Rattle.pb.specs.Checks.{PassesChecks, line_check}
 use Rattle.pb.specs.Lines.{Line}
 use Rattle.schedule.specs.Reading.{then, Schedule, read_variables, read_line, next_line, judged, line_or_fault, no_more_lines, more_lines, read_lines, line_size, read_schedule}
 use Rattle.translate.specs.Translation.{Progress, advanced, working_form, write_with, write_by, lines_with, lines_written, schedule_with, write_schedule, or_refusal}
@@ -26,7 +26,7 @@ all_passed true true o h = (refl, refl, h)
 all_passed true false o h = cc
 all_passed false b o h = cc
 
-pub sound_by_check : (n : ℕ) (l : Line) → line_check n l ≡ None → Sound n l
+pub sound_by_check : (n : ℕ) (l : Line) → line_check n l ≡ None → PassesChecks n l
 sound_by_check n l h =
     let p = all_passed _ _ _ h in
     record { bounded = leb-true _ _ p.0; few = leb-true _ _ p.1; fine = p.2 }
@@ -100,13 +100,13 @@ fit_ok true many full h = refl
 fit_ok false many full h = h
 
 -- so its working form is one that the encoder's law speaks of
-pub in_reach : (e : Encoding) (n before : ℕ) (l : Line) → Sound n l → n ≤ before → e.reach (working_form n l) ≡ true → leb (before + e.takes (working_form n l)) 60000 ≡ true → InReach e n (suc before) (working_form n l)
+pub in_reach : (e : Encoding) (n before : ℕ) (l : Line) → PassesChecks n l → n ≤ before → e.reach (working_form n l) ≡ true → leb (before + e.takes (working_form n l)) 60000 ≡ true → InReach e n (suc before) (working_form n l)
 in_reach e n before l sound known near short =
     let below = leb-true _ _ short in
-    record { proper = (forms_keep n l sound).0; reached = near; above = omega arith; below = omega arith }
+    record { is_normal = (forms_keep n l sound).0; reached = near; above = omega arith; below = omega arith }
 
 module _ (e : Encoding) (law : Lawful e) (fits : Rule) (begins : Begins fits) (n : ℕ) where
-  line_whole : (number : ℕ) (p : Progress) (l : Line) → Sound n l → fits p.held ≡ true → n ≤ p.numbers → write_by e fits number p (working_form n l) ≡ write_with whole_answer e fits number p (working_form n l)
+  line_whole : (number : ℕ) (p : Progress) (l : Line) → PassesChecks n l → fits p.held ≡ true → n ≤ p.numbers → write_by e fits number p (working_form n l) ≡ write_with whole_answer e fits number p (working_form n l)
   line_whole number p l sound fit known =
       let w = working_form n l in
       let ds = e.clauses w (suc p.numbers) in

@@ -3,9 +3,9 @@ use Rattle.std.specs.Prelude.{◌≡◌, ℕ, ◌<◌, ◌≤◌, ◌⊎◌, Lis
 use Rattle.fault.specs.declared.book.BookFault.TheVariants.{Full}
 use Rattle.fault.specs.declared.file.FileFault.{FileFault}
 use Rattle.fault.specs.declared.file.FileFault.TheVariants.{Line as LineAt, Book as BookAt}
-use Rattle.fault.specs.declared.line.LineFault.{LineFault}
-use Rattle.pb.specs.declared.working.Head.{Head}
-use Rattle.pb.specs.declared.working.Weighted.{Weighted}
+use Rattle.pb.specs.declared.line_fault.LineFault.{LineFault}
+use Rattle.pb.specs.declared.working.WorkingHead.{WorkingHead}
+use Rattle.pb.specs.declared.working.WorkingTerm.{WorkingTerm}
 use Rattle.pb.specs.Lines.{Line, line_in}
 use Rattle.pb.specs.Checks.{line_check}
 use Rattle.pb.specs.Normal.{normal}
@@ -13,7 +13,7 @@ use Rattle.schedule.specs.Reading.{offset_of_fault}
 use Rattle.translate.specs.declared.run.Run.{Run}
 
 -- nothing is wrong with the line, the book has room for it, and this is its normal form
-pub record Entered (l : Line) (run : Run) (f : Head) (form : List Weighted) : Type 0 where
+pub record Entered (l : Line) (run : Run) (f : WorkingHead) (form : List WorkingTerm) : Type 0 where
   pub fine : line_check run.variables.count l ≡ None
   pub line_free : run.held < 24
   pub terms_free : length l.terms ≤ run.free

@@ -6,7 +6,7 @@ use Rattle.fault.specs.declared.refusal.Refusal.{Refusal}
 use Rattle.fault.specs.Refusals.{file_refusal}
 use Rattle.cnf.specs.Calls.{Rule}
 use Rattle.cnf.specs.Clauses.{Clause}
-use Rattle.cnf.specs.Sheets.{Kept}
+use Rattle.cnf.specs.Sheets.{SameSheet}
 use Rattle.cnf.specs.declared.sheet.Sheet.{Ghosts}
 use Rattle.encode.specs.Law.{Encoding}
 use Rattle.pb.specs.Lines.{Line}
@@ -49,5 +49,5 @@ pub record Grew (cs ds : List Clause) : Type 0 where
 -- whatever a call did, clauses were written to the sheet only after what it held; s is the sheet before the call and t the
 -- sheet after it
 pub record Added {S : Type 0} (sheet : Ghosts S) (s t : S) : Type 0 where
-  pub stays : Kept sheet s t
+  pub stays : SameSheet sheet s t
   pub grew : Grew (sheet.held s) (sheet.held t)

@@ -4,7 +4,7 @@ use Rattle.std.specs.Prelude.{◌≡◌, ℕ, suc, ◌+◌, cond, List, [], ◌�
 use Rattle.fault.specs.declared.book.BookFault.TheVariants.{Reach, Auxiliary}
 use Rattle.fault.specs.declared.file.FileFault.{FileFault}
 use Rattle.fault.specs.declared.refusal.Refusal.{Refusal}
-use Rattle.fault.specs.declared.sheet.SheetFault.{SheetFault}
+use Rattle.cnf.specs.declared.sheet_fault.SheetFault.{SheetFault}
 use Rattle.fault.specs.Refusals.{book_refusal, sheet_refusal, file_refusal}
 use Rattle.cnf.specs.Calls.{Rule, all_answer}
 use Rattle.cnf.specs.Clauses.{Clause}
@@ -12,11 +12,11 @@ use Rattle.encode.specs.Choice.{up_to}
 use Rattle.encode.specs.Direct.{direct_encoding}
 use Rattle.encode.specs.Law.{Encoding}
 use Rattle.encode.specs.Order.{order_encoding}
-use Rattle.pb.specs.Checks.{Sound}
+use Rattle.pb.specs.Checks.{PassesChecks}
 use Rattle.pb.specs.Lines.{Line, Working}
 use Rattle.pb.specs.Meaning.{Assignment, meets, met}
 use Rattle.pb.specs.Normal.{normal}
-use Rattle.pb.specs.Proper.{Proper}
+use Rattle.pb.specs.WorkingForm.{IsNormal}
 use Rattle.pb.specs.Tightened.{tightened}
 use Rattle.schedule.specs.Reading.{then, Schedule, read_schedule}
 use Rattle.schedule.specs.Writing.{Takes, file_of}
@@ -97,4 +97,4 @@ OfSchedules e fits input cs = (s : Schedule) → Takes 24 512 s → input ≡ fi
 
 -- the form that a line is written in is met by just the assignments that meet the line
 abbrev pub FormsKeep : Type 0
-FormsKeep = (n : ℕ) (l : Line) → Sound n l → Proper n (working_form n l) × ((a : Assignment) → met a (working_form n l) ≡ meets a l)
+FormsKeep = (n : ℕ) (l : Line) → PassesChecks n l → IsNormal n (working_form n l) × ((a : Assignment) → met a (working_form n l) ≡ meets a l)

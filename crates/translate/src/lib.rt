@@ -3,20 +3,20 @@
 
 ghost use Rattle.std.specs.Prelude.{◌≡◌, Err, MatchResult, IfOk};
 ghost use Rattle.encode.specs.Models.{ModelsExtend};
-ghost use Rattle.cnf.specs.Sheets.{Kept};
+ghost use Rattle.cnf.specs.Sheets.{SameSheet};
 ghost use Rattle.schedule.specs.Place.{rest_of};
 ghost use Rattle.translate.specs.Translation.{encoding, translation, Done, Undone, OfSchedules, FormsKeep};
 ghost use Rattle.translate.specs.Streaming.{fresh, progress, coming, Added};
 ghost use Rattle.translate.specs.Whole.{WholeLists};
 ghost use Rattle.translate.specs.Solutions.{Meant};
 
-use choose::UpTo;
 use cnf::sheet::Sheet;
-use direct::encoder::{Direct, MOST_TERMS};
 use encode::encoder::Encoder;
+use encoders::choice::UpTo;
+use encoders::direct::{Direct, MOST_TERMS};
+use encoders::order::Order;
 use fault::refusal::Refusal;
 use header::Header;
-use order::encoder::Order;
 use pb::variables::Variables;
 use run::Run;
 use schedule::reader::Reader;
@@ -65,14 +65,14 @@ fn write_file<E: Encoder, S: Sheet>(
 
 // Writes the clauses that an encoder makes of a schedule file after what the sheet holds, and answers what stands before
 // them; or says why not, and leaves the sheet as it was.
-// Kept: encoder and sheet as two parameters, here and below, since one is only read and the other written, and no call keeps both.
+// encoder and sheet as two parameters, here and below, since one is only read and the other written, and no call keeps both.
 #[tactic(auto, using(crate::proofs::Steps::of_a_schedule))]
 pub fn translate_by<E: Encoder, S: Sheet>(
     encoder: &E,
     input: &[u8],
     sheet: &mut S,
 ) -> Result<Header, Refusal>
-    ensures stays { Kept S.Sheet sheet.old sheet.new }
+    ensures stays { SameSheet S.Sheet sheet.old sheet.new }
     ensures cases { MatchResult result
         (λ h. Done (E.Encoder.meaning encoder.now) (S.Sheet.fits sheet.old) input.now (S.Sheet.held sheet.old) (S.Sheet.held sheet.new) h)
         (λ r. Undone (E.Encoder.meaning encoder.now) (S.Sheet.fits sheet.old) input.now (S.Sheet.held sheet.old) (S.Sheet.held sheet.new) r) }
@@ -105,7 +105,7 @@ pub fn by_terms() -> UpTo<Direct, Order>
 
 // The same by the encoder that goes by a line's terms.
 pub fn translate<S: Sheet>(input: &[u8], sheet: &mut S) -> Result<Header, Refusal>
-    ensures stays { Kept S.Sheet sheet.old sheet.new }
+    ensures stays { SameSheet S.Sheet sheet.old sheet.new }
     ensures cases { MatchResult result
         (λ h. Done encoding (S.Sheet.fits sheet.old) input.now (S.Sheet.held sheet.old) (S.Sheet.held sheet.new) h)
         (λ r. Undone encoding (S.Sheet.fits sheet.old) input.now (S.Sheet.held sheet.old) (S.Sheet.held sheet.new) r) }

@@ -12,13 +12,13 @@ use crate::writing::write;
 use cnf::sheet::Sheet;
 use encode::encoder::Encoder;
 use fault::book::BookFault;
-use fault::file::{At, FileFault};
-use fault::line::LineFault;
+use fault::file::{AtOffset, FileFault};
 use lines::normal::normal_form;
+use lines::tightening::tighten;
+use pb::line_fault::LineFault;
 use pb::variables::Variables;
-use pb::working::{Head, Weighted, WorkingLine};
-use schedule::line::LineRecord;
-use simplify::tightening::tighten;
+use pb::working::{WorkingHead, WorkingLine, WorkingTerm};
+use schedule::line::ReadLine;
 
 // The book of a run holds so many lines, and so many terms of theirs in all.
 const LINES: usize = 24;
@@ -37,7 +37,7 @@ fn fault_offset(at: usize, fault: LineFault) -> usize
 }
 
 // Tightens the line whose terms stand in the table.
-fn tighten_in(line: Head, form: &mut [Weighted; 64]) -> Head
+fn tighten_in(line: WorkingHead, form: &mut [WorkingTerm; 64]) -> WorkingHead
     requires { line.count ≤ 64 }
     ensures line { tightened (line_in line form.old) ≡ line_in result form.new }
     ensures few { result.count ≤ 64 }
@@ -60,24 +60,24 @@ impl Run {
     }
 
     // The line's normal form, where the line is sound and the book has room for it.
-    // Kept: a condition and no ghost field of LineRecord, whose offset is public, so that whoever sets it would owe the fact.
-    fn enter(&self, line: &LineRecord, form: &mut [Weighted; 64]) -> Result<Head, FileFault>
+    // a condition and no ghost field of ReadLine, whose offset is public, so that whoever sets it would owe the fact.
+    fn enter(&self, line: &ReadLine, form: &mut [WorkingTerm; 64]) -> Result<WorkingHead, FileFault>
         requires { line.now.offset + line_size (line_of line.now) < 2 ^ 64 }
         ensures { MatchResult result (λ f. Entered (line_of line.now) self.now f form.new) (λ x. NotEntered (line_of line.now) line.now.offset self.now x) }
     {
         let at = line.offset;
         let normal = normal_form(self.variables, line.constraint(), form).map_err(
-            |fault| -> At<LineFault>
+            |fault| -> AtOffset<LineFault>
                 requires { offset_of_fault at fault < 2 ^ 64 }
             {
-                At {
+                AtOffset {
                     offset: fault_offset(at, fault),
                     fault,
                 }
             },
         )?;
         if self.held >= LINES || line.terms().len() > self.free {
-            return Err(FileFault::from(At {
+            return Err(FileFault::from(AtOffset {
                 offset: line.offset,
                 fault: BookFault::Full(self.held),
             }));
@@ -89,7 +89,7 @@ impl Run {
     pub(crate) fn take_line<E: Encoder, S: Sheet>(
         &mut self,
         encoder: &E,
-        line: &LineRecord,
+        line: &ReadLine,
         sheet: &mut S,
     ) -> Result<(), FileFault>
         requires { line.now.offset + line_size (line_of line.now) < 2 ^ 64 }
@@ -98,8 +98,8 @@ impl Run {
             (λ _. GoesOn (E.Encoder.meaning encoder.now) (S.Sheet.fits sheet.old) self.old (S.Sheet.held sheet.old) self.new (S.Sheet.held sheet.new) line.now.offset (line_of line.now))
             (λ x. EndsWith (E.Encoder.meaning encoder.now) (S.Sheet.fits sheet.old) self.old (S.Sheet.held sheet.old) x line.now.offset (line_of line.now)) }
     {
-        // Kept: a table and a head, since the normal form is written to memory that is lent, and is tightened there in place.
-        let mut form = [Weighted {
+        // a table and a head, since the normal form is written to memory that is lent, and is tightened there in place.
+        let mut form = [WorkingTerm {
             weight: 0,
             literal: 0,
         }; 64];
@@ -107,7 +107,7 @@ impl Run {
         self.held += 1;
         self.free -= line.terms().len();
         if let Ok(taken) = self.written {
-            let Head {
+            let WorkingHead {
                 sense,
                 bound,
                 count,

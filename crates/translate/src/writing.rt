@@ -9,19 +9,19 @@ use cnf::sheet::Sheet;
 use encode::encode_fault::EncodeFault;
 use encode::encoder::Encoder;
 use fault::book::BookFault;
-use fault::file::At;
+use fault::file::AtOffset;
 use fault::refusal::Refusal;
 use pb::working::WorkingLine;
 
 // The highest number that an auxiliary may have.
-// Kept: beside the last variable that a clause may name, which has another type.
+// beside the last variable that a clause may name, which has another type.
 const NUMBERS: usize = 60_000;
 
 // The refusal of a call on the book, which is outside any file.
 fn refused(fault: BookFault) -> Refusal
     ensures { result ≡ book_refusal fault 0 }
 {
-    Refusal::from(At { offset: 0, fault })
+    Refusal::from(AtOffset { offset: 0, fault })
 }
 
 // Writes the line of this number, whose auxiliaries come after the numbers taken, and answers how many are taken then;

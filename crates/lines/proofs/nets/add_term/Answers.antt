@@ -3,7 +3,7 @@ use Rattle.std.proofs.Common.{◌≡◌, ◌≤◌, true, false, pos, nat_abs, �
 use lib.Signed.{lt_z}
 use Rattle.std.proofs.lemmas.Int.{ints, to_z-of_z}
 use Rattle.pb.specs.Normal.{weight_under}
-use Rattle.pb.proofs.Fairness.{under_small}
+use Rattle.pb.proofs.Ranges.{under_small}
 use Rattle.lines.specs.Nets.{at}
 use Rattle.lines.proofs.Netting.{at_set_share, turned_below, turned_above}
 use Rattle.lines.proofs.nets.add_term.Goals as goal

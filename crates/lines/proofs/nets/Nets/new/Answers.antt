@@ -5,9 +5,9 @@ use Rattle.std.proofs.ByRecursion.{All-get_or}
 use Rattle.std.proofs.lemmas.List.{get_or-replicate, at_drop_more}
 use Rattle.std.proofs.lemmas.Int.{ints}
 use Rattle.pb.specs.declared.term.Term.{Term}
-use Rattle.pb.specs.Checks.{Fair}
+use Rattle.pb.specs.Checks.{IsTermInRange}
 use Rattle.pb.specs.Normal.{weight_under, share, net, lowering, lowered}
-use Rattle.pb.proofs.Fairness.{fair_terms, under_small, lowering_small}
+use Rattle.pb.proofs.Ranges.{terms_in_range, under_small, lowering_small}
 use Rattle.lines.specs.Nets.{at}
 use Rattle.lines.proofs.Netting.{net_so_far, lowered_so_far}
 use Rattle.lines.proofs.nets.Nets.new.Goals as goal
@@ -20,17 +20,17 @@ loop-term-init c = (
 
 pub add_term-lowered_by-requires : goal.add_term-lowered_by-requires
 add_term-lowered_by-requires c =
-    let all : AllByRecursion (Fair 256) c.args.line.terms.now = fair_terms c.args.variables.count 256 1 c.args.line.terms.now c.args.variables.few c.requires.fine in
+    let all : AllByRecursion (IsTermInRange 256) c.args.line.terms.now = terms_in_range c.args.variables.count 256 1 c.args.line.terms.now c.args.variables.few c.requires.fine in
     record {
-      fair = All-get_or (Fair 256) c.args.line.terms.now c.loop-term.term-index _ c.loop-term-test.true all;
+      fair = All-get_or (IsTermInRange 256) c.args.line.terms.now c.loop-term.term-index _ c.loop-term-test.true all;
       within = λ v h. net_so_far c.is_negated-negate.result c.args.line.terms.now c.loop-term.term-index v _ c.requires.few all (c.loop-term.invariant.1 v h);
     }
 
 pub overflow_add-lowered_by : goal.overflow_add-lowered_by
 overflow_add-lowered_by c =
-    let all : AllByRecursion (Fair 256) c.args.line.terms.now = fair_terms c.args.variables.count 256 1 c.args.line.terms.now c.args.variables.few c.requires.fine in
+    let all : AllByRecursion (IsTermInRange 256) c.args.line.terms.now = terms_in_range c.args.variables.count 256 1 c.args.line.terms.now c.args.variables.few c.requires.fine in
     let t : Term = get_or c.args.line.terms.now c.loop-term.term-index (record { weight = pos 0; literal = pos 0 }) in
-    let fair = All-get_or (Fair 256) c.args.line.terms.now c.loop-term.term-index _ c.loop-term-test.true all in
+    let fair = All-get_or (IsTermInRange 256) c.args.line.terms.now c.loop-term.term-index _ c.loop-term-test.true all in
     let one = lowering_small t.literal (weight_under c.is_negated-negate.result t) (under_small 256 c.is_negated-negate.result t fair) in
     let far = lowered_so_far c.is_negated-negate.result c.args.line.terms.now c.loop-term.term-index _ c.requires.few all c.loop-term.invariant.0 in
     let by = c.add_term-lowered_by.ensures.sum in
@@ -38,13 +38,13 @@ overflow_add-lowered_by c =
 
 pub loop-term-preserved : goal.loop-term-preserved
 loop-term-preserved c =
-    let all : AllByRecursion (Fair 256) c.args.line.terms.now = fair_terms c.args.variables.count 256 1 c.args.line.terms.now c.args.variables.few c.requires.fine in
+    let all : AllByRecursion (IsTermInRange 256) c.args.line.terms.now = terms_in_range c.args.variables.count 256 1 c.args.line.terms.now c.args.variables.few c.requires.fine in
     let b = c.is_negated-negate.result in
     let ts = c.args.line.terms.now in
     let i = c.loop-term.term-index in
     let t : Term = get_or ts i (record { weight = pos 0; literal = pos 0 }) in
     let rest = drop (i + 1) ts in
-    let fair = All-get_or (Fair 256) ts i _ c.loop-term-test.true all in
+    let fair = All-get_or (IsTermInRange 256) ts i _ c.loop-term-test.true all in
     let one = lowering_small t.literal (weight_under b t) (under_small 256 b t fair) in
     let far = lowered_so_far b ts i _ c.requires.few all c.loop-term.invariant.0 in
     let by = c.add_term-lowered_by.ensures.sum in

@@ -1,2 +1,0 @@
-mod Giving
-mod Places

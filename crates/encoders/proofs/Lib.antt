@@ -1,0 +1,3 @@
+mod MaskLists
+mod MaskPlaces
+mod Entries

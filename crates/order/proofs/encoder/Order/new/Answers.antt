@@ -1,6 +1,0 @@
--- The encoder's law.
-use Rattle.encode.proofs.Ordering.{order_lawful}
-use Rattle.order.proofs.encoder.Order.new.Goals as goal
-
-pub returns-clause-law : goal.returns-clause-law
-returns-clause-law c = order_lawful

@@ -1,0 +1,45 @@
+// A sheet over a lent table: each clause lies there as its literals and a 0 that ends it.
+ghost use Rattle.std.specs.Prelude.{pos};
+ghost use Rattle.cnf.proofs.CellsBack.{equals_zero, cells_faithful};
+ghost use Rattle.cnf.specs.Cells.{flat_layout};
+
+use crate::layout::CellLayout;
+use crate::memory::MemorySheet;
+use cnf::clause::FormedClause;
+
+pub struct FlatLayout;
+
+pub type FlatSheet<'a> = MemorySheet<'a, FlatLayout>;
+
+impl CellLayout for FlatLayout {
+    type Cell = i32;
+
+    const END: i32 = 0;
+
+    ghost END = { pos 0 };
+
+    ghost layout = { flat_layout };
+
+    fn put(cells: &mut [i32], at: usize, clause: FormedClause<'_>) -> Option<usize> {
+        let literals = clause.literals();
+        // and the 0 that ends it
+        let size = literals.len() + 1;
+        let end = at.checked_add(size)?;
+        if end > cells.len() {
+            return None;
+        }
+        let last = at + literals.len();
+        cells[at..last].copy_from_slice(literals);
+        cells[last] = Self::END;
+        Some(end)
+    }
+
+    fn literal_in(part: &[i32], j: usize) -> Option<i32> {
+        let (_end, literals) = part.split_last()?;
+        literals.get(j.checked_sub(1)?).copied()
+    }
+
+    ghost ends = { equals_zero };
+
+    ghost faithful = { cells_faithful };
+}

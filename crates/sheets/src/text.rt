@@ -1,0 +1,54 @@
+// A sheet of clauses as text: each clause lies in the lent bytes as a row that a line feed ends.
+ghost use Rattle.std.proofs.Common.{refl};
+ghost use Rattle.cnf.proofs.TextBack.{text_faithful};
+ghost use Rattle.cnf.specs.Text.{text_layout};
+
+use crate::layout::CellLayout;
+use crate::memory::MemorySheet;
+use crate::reading::number_in;
+use crate::writing::{put_bytes, row_size};
+use cnf::clause::FormedClause;
+use cnf::marks::{Equal, after_mark};
+use itoa::Buffer;
+
+pub struct TextLayout;
+
+pub type TextSheet<'a> = MemorySheet<'a, TextLayout>;
+
+impl CellLayout for TextLayout {
+    type Cell = u8;
+
+    const END: u8 = b'\n';
+
+    ghost END = { 10 };
+
+    ghost layout = { text_layout };
+
+    fn put(bytes: &mut [u8], at: usize, clause: FormedClause<'_>) -> Option<usize> {
+        let literals = clause.literals();
+        if at.checked_add(row_size(clause))? > bytes.len() {
+            return None;
+        }
+        let mut buffer = Buffer::new();
+        let mut to = at;
+        for literal in literals {
+            let end = put_bytes(bytes, to, buffer.format(*literal).as_bytes());
+            to = put_bytes(bytes, end, b" ");
+        }
+        Some(put_bytes(bytes, to, b"0\n"))
+    }
+
+    fn literal_in(row: &[u8], j: usize) -> Option<i32> {
+        let from = after_mark(row, &Equal(b' '), j.checked_sub(1)?);
+        let to = after_mark(row, &Equal(b' '), j);
+        // a space stands behind each literal, and the last 0 behind them all
+        if to >= row.len() {
+            return None;
+        }
+        number_in(&row[from..to - 1])
+    }
+
+    ghost ends = { λ _. refl };
+
+    ghost faithful = { text_faithful };
+}

@@ -1,5 +1,0 @@
-mod Chains
-mod Each
-mod Gcd
-mod Keeping
-mod Quotients

@@ -1,7 +1,0 @@
--- The chain sums the weights.
-use Rattle.std.proofs.Common.{◌≡◌, sum_by, ◌∙◌, rules}
-use Rattle.simplify.proofs.Chains.{total_is}
-use Rattle.simplify.proofs.sums.total.Goals as goal
-
-pub returns : goal.returns
-returns c = let e : c.sum.result ≡ sum_by (λ t. t.weight) c.args.terms.now = search rules in e ∙ total_is c.args.terms.now

@@ -1,0 +1,13 @@
+#![tactic(auto)]
+
+// Tests that cross crates: worked lines, one run over every sheet and each layer, and the encoders on real sheets.
+#[cfg(test)]
+mod encoders_on_sheets;
+#[cfg(test)]
+mod every_sheet;
+#[cfg(test)]
+mod exercise;
+#[cfg(test)]
+mod normal_forms;
+#[cfg(test)]
+mod working_lines;

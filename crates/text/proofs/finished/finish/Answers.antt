@@ -1,6 +1,0 @@
--- The cells in use are the text of the clauses held, which reads back as these.
-use Rattle.cnf.proofs.InText.{text_reads_back}
-use Rattle.text.proofs.finished.finish.Goals as goal
-
-pub returns-clause-back : goal.returns-clause-back
-returns-clause-back c = text_reads_back
