@@ -1,9 +1,10 @@
 #!/usr/bin/env python3
-"""An independent translator, and the cases that the program `cases` is held to.
+"""An independent translator, and the cases that the programs `cases` and `worked` are held to.
 
 It follows docs/ and shares no code with the crates. `python3 tools/cases.py crates/cases`
 writes crates/cases/stdin, the schedule files of all cases, and crates/cases/stdout, what this
-translator makes of them. `python3 tools/cases.py translate < FILE` translates one file, and
+translator makes of them; `python3 tools/cases.py worked crates/worked` likewise the worked lines of
+each encoder. `python3 tools/cases.py translate < FILE` translates one file, and
 `python3 tools/cases.py sizes` holds the sizes that docs/encoders.md gives against this translator's lists.
 
 A case in stdin: the name's length (2 bytes, high byte first), the name, the file's length (2 bytes),
@@ -408,6 +409,82 @@ def cases():
         yield from group()
 
 
+# ---- lines by encoder
+
+ROOM = 65_536
+
+
+def ones(n):
+    return [(1, v) for v in range(1, n + 1)]
+
+
+def worked_lines():
+    """(encoder, exact, bound, first auxiliary, terms): the worked lines of the encoders' tables, and some beside them."""
+    small = [(1, 1), (2, 2)]
+    yield "direct", False, 4, 4, [(1, 1), (2, 2), (3, 3)]
+    yield "direct", True, 1, 3, small
+    yield "order", False, 2, 3, [(2, 1), (1, 2)]
+    for encoder in ("direct", "order"):
+        for exact in (False, True):
+            for bound in range(6):
+                yield encoder, exact, bound, 3, small
+                yield encoder, exact, bound, 3, [(2, -1), (1, 2)]
+            for bound in (0, 1, 2):
+                yield encoder, exact, bound, 1, []
+                yield encoder, exact, bound, 2, [(1, 1)]
+    for bound in (0, 1, 6, 7, 12, 13):
+        yield "direct", False, bound, 13, ones(12)
+        yield "direct", True, bound, 13, ones(12)
+    yield "direct", False, 1, 14, ones(13)
+    for exact, bound in ((False, 256), (False, 257), (True, 255), (True, 256)):
+        yield "order", exact, bound, 65, ones(64)
+    yield "order", False, 256, 66, ones(65)
+    yield "order", False, 20, 65, ones(64)
+    yield "order", False, 1, 59_936, ones(64)
+    yield "order", False, 1, 59_937, ones(64)
+    yield "order", False, 1, 59_938, ones(64)
+    for n in (11, 12, 13, 14):
+        yield "by-terms", False, 2, n + 1, ones(n)
+        yield "by-terms", True, 2, n + 1, ones(n)
+    rng = random.Random(22)
+    for _ in range(120):
+        n = rng.randint(1, 7)
+        terms = [(rng.randint(1, 5), rng.choice((v, -v))) for v in range(1, n + 1)]
+        exact, bound = rng.random() < 0.5, rng.randint(0, sum(w for w, _ in terms) + 1)
+        yield "direct", exact, bound, n + 1, terms
+        yield "order", exact, bound, n + rng.randint(1, 9), terms
+
+
+def encoded(encoder, exact, bound, first, terms):
+    """What an encoder puts of a line into a text of so much room, or why it does not."""
+    few = len(terms) <= DIRECT
+    if encoder == "direct" or encoder == "by-terms" and few:
+        if not few:
+            return "out of reach\n"
+        clauses = direct((exact, bound, terms))
+    else:
+        if len(terms) * (bound + 1 if exact else bound) > ORDER:
+            return "out of reach\n"
+        clauses = order((exact, bound, terms), first)
+    rows = "".join("".join(f"{l} " for l in c) + "0\n" for c in clauses)
+    if len(rows) > ROOM or any(abs(l) > NUMBERS for c in clauses for l in c):
+        return "refused by the sheet, which holds 0\n"
+    return rows
+
+
+def write_worked(folder):
+    rows, expected = [], []
+    for encoder, exact, bound, first, terms in worked_lines():
+        words = [encoder, "exactly" if exact else "least", bound, first, *(x for t in terms for x in t)]
+        rows.append(" ".join(map(str, words)))
+        expected.append(f"# {rows[-1]}\n{encoded(encoder, exact, bound, first, terms)}")
+    with open(f"{folder}/stdin", "w") as f:
+        f.write("".join(r + "\n" for r in rows))
+    with open(f"{folder}/stdout", "w") as f:
+        f.write("".join(expected))
+    print(f"{len(rows)} lines, {sum(map(len, expected))} bytes out")
+
+
 def sizes():
     """Holds the numbers of clauses that docs/encoders.md gives against the lists made here."""
     rng = random.Random(5)
@@ -430,6 +507,9 @@ def main():
         return
     if sys.argv[1] == "sizes":
         sizes()
+        return
+    if sys.argv[1] == "worked":
+        write_worked(sys.argv[2])
         return
     folder = sys.argv[1]
     given, expected = bytearray(), []

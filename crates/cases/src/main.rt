@@ -1,5 +1,5 @@
-// Runs every schedule file of standard input through the translator, and prints what comes of each below its name. A case
-// is a name and a file, each after its length in two bytes.
+// Runs every schedule file of standard input through the translator, and prints what comes of each below its name. A
+// case is a name and a file, each after its length in two bytes.
 #![tactic(auto)]
 
 use output::print_cases;

@@ -1,6 +1,7 @@
 -- Well-formed clauses have no literal 0, so that each 0 in the cells ends a clause, and the cells read back as the
 -- clauses.
-use Rattle.std.proofs.Common.{◌≡◌, ℕ, ◌<◌, true, false, cond, eqb, List, [], ◌∷◌, ◌++◌, ℤ, pos, negsuc, nat_abs, refl, ap, ◌∙◌, append_assoc, arith}
+use Rattle.std.proofs.Common.{◌≡◌, ℕ, ◌<◌, true, false, cond, eqb, List, [], ◌∷◌, ◌++◌, ℤ, pos, negsuc, nat_abs, refl}
+use Rattle.std.proofs.Common.{ap, ◌∙◌, append_assoc, arith}
 use Rattle.std.specs.Ordering.{int_eq}
 use Rattle.std.proofs.lemmas.Bool.Decides.{same_from_decides, Decides-eqb, Decides-int_eq, Decides-like}
 use Rattle.std.proofs.lemmas.Bool.{and_parts, ne_eqb, ltb-true}
@@ -12,7 +13,9 @@ use Rattle.cnf.proofs.Marking.{part_from}
 
 -- a cell ends a clause exactly where it equals 0
 pub equals_zero : (l : ℤ) → int_eq l (pos 0) ≡ is_zero l
-equals_zero (pos n) = same_from_decides _ _ (Decides-int_eq (pos n) (pos 0)) (Decides-like (eqb n 0) (ap pos) (λ e. cc) (Decides-eqb n 0))
+equals_zero (pos n) =
+    same_from_decides _ _ (Decides-int_eq (pos n) (pos 0))
+    (Decides-like (eqb n 0) (ap pos) (λ e. cc) (Decides-eqb n 0))
 equals_zero (negsuc n) = refl
 
 some_not_zero : (l : ℤ) → 0 < nat_abs l → is_zero l ≡ false
@@ -30,11 +33,14 @@ no_zeros (l ∷ ls) h =
     omega (arith, e, no_zeros ls p.1)
 
 -- the cells of one clause, and of all
-one_back : (ls : List ℤ) (rest : List ℤ) → literals_formed ls ≡ true → clauses_in (ls ++ pos 0 ∷ rest) ≡ of_literals ls ∷ clauses_in rest
+one_back : (ls : List ℤ) (rest : List ℤ) → literals_formed ls ≡ true
+    → clauses_in (ls ++ pos 0 ∷ rest) ≡ of_literals ls ∷ clauses_in rest
 one_back [] rest h = refl
 one_back (l ∷ ls) rest h =
     let p = and_parts _ _ h in
-    ap (λ b. cond b (of_literals [] ∷ clauses_in (ls ++ pos 0 ∷ rest)) (onto_first l (clauses_in (ls ++ pos 0 ∷ rest)))) (formed_not_zero l p.0)
+    ap (λ b. cond b (of_literals [] ∷ clauses_in (ls ++ pos 0 ∷ rest))
+    (onto_first l (clauses_in (ls ++ pos 0 ∷ rest))))
+    (formed_not_zero l p.0)
     ∙ ap (onto_first l) (one_back ls rest p.1)
 
 pub cells_back : (cs : List Clause) → all_well_formed cs ≡ true → clauses_in (written flat_layout cs) ≡ cs
@@ -42,7 +48,8 @@ cells_back [] h = refl
 cells_back (c ∷ cs) h =
     let p = and_parts _ _ h in
     let f = and_parts _ _ p.0 in
-    ap clauses_in (append_assoc c.literals (pos 0 ∷ []) (written flat_layout cs)) ∙ one_back c.literals (written flat_layout cs) f.1
+    ap clauses_in (append_assoc c.literals (pos 0 ∷ []) (written flat_layout cs))
+    ∙ one_back c.literals (written flat_layout cs) f.1
     ∙ ap (λ ds. c ∷ ds) (cells_back cs p.1)
 
 pub cells_faithful : Faithful flat_layout

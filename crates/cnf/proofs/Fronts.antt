@@ -1,6 +1,7 @@
--- A memory whose used front shows clauses, of any layout to rely on: after a clause was written behind the front, after
--- the front was cut, and where one clause's part lies.
-use Rattle.std.proofs.Common.{◌≡◌, ℕ, ◌+◌, ◌<◌, ◌≤◌, true, List, [], ◌∷◌, ◌++◌, length, get_or, take, drop, sym, refl, ap, ◌∙◌, subst, arith}
+-- A memory whose used front shows clauses, of any layout to rely on: after a clause was written behind the front,
+-- after the front was cut, and where one clause's part lies.
+use Rattle.std.proofs.Common.{◌≡◌, ℕ, ◌+◌, ◌<◌, ◌≤◌, true, List, [], ◌∷◌, ◌++◌, length, get_or, take, drop, sym, refl}
+use Rattle.std.proofs.Common.{ap, ◌∙◌, subst, arith}
 use Rattle.std.proofs.lemmas.List.{length-take-le, take-take}
 use Rattle.std.proofs.lemmas.Slice.{between_is}
 use Rattle.std.specs.List.{between}
@@ -12,7 +13,8 @@ use Rattle.cnf.proofs.Showing.{shows_few, read_more, shows_more, room_more, read
 use Rattle.cnf.proofs.Marking.{after_within, after_more}
 use Rattle.cnf.proofs.Overwriting.{overwritten_front, overwritten_length}
 
-module _ {X : Type 0} (layout : Layout X) (lay : Faithful layout) {all : List X} {used count : ℕ} (f : Front layout all used count) where
+module _ {X : Type 0} (layout : Layout X) (lay : Faithful layout) {all : List X} {used count : ℕ}
+    (f : Front layout all used count) where
   front_size : length (take used all) ≡ used
   front_size = length-take-le used all f.inside
 
@@ -20,22 +22,31 @@ module _ {X : Type 0} (layout : Layout X) (lay : Faithful layout) {all : List X}
   few = omega (arith, shows_few layout lay f.shows, front_size)
 
   -- whether there is room for one clause more
-  pub has_more : (c : Clause) → used + length (layout.write c) ≤ length all → has_room layout (length all) (layout.read (take used all) ++ c ∷ []) ≡ true
+  pub has_more : (c : Clause) → used + length (layout.write c) ≤ length all
+      → has_room layout (length all) (layout.read (take used all) ++ c ∷ []) ≡ true
   has_more c h = room_more layout lay f.shows (length all) c (omega (arith, front_size))
 
   -- a clause was written behind the front
-  module _ (c : Clause) {after : List X} (end : ℕ) (formed : well_formed c ≡ true) (room : used + length (layout.write c) ≤ length all) (put : after ≡ overwritten used (layout.write c) all) (ends : end ≡ used + length (layout.write c)) where
+  module _ (c : Clause) {after : List X} (end : ℕ) (formed : well_formed c ≡ true)
+      (room : used + length (layout.write c) ≤ length all) (put : after ≡ overwritten used (layout.write c) all)
+      (ends : end ≡ used + length (layout.write c)) where
     put_front : take end after ≡ take used all ++ layout.write c
     put_front = ap (take end) put ∙ overwritten_front used (layout.write c) all room end ends
 
     pub put_shows : Shows layout (take end after) (count + 1)
-    put_shows = subst (λ xs. Shows layout xs (count + 1)) (sym put_front) (shows_more layout lay f.shows c (count + 1) formed refl)
+    put_shows =
+        subst (λ xs. Shows layout xs (count + 1)) (sym put_front)
+        (shows_more layout lay f.shows c (count + 1) formed refl)
 
     pub put_reads : layout.read (take end after) ≡ layout.read (take used all) ++ c ∷ []
     put_reads = ap layout.read put_front ∙ read_more layout lay f.shows c formed
 
     pub put_keeps : Front layout after end (count + 1)
-    put_keeps = record { inside = omega (arith, ap length put, overwritten_length used (layout.write c) all room); shows = put_shows }
+    put_keeps =
+        record {
+          inside = omega (arith, ap length put, overwritten_length used (layout.write c) all room);
+          shows = put_shows;
+        }
 
   -- the front was cut after so many marks
   module _ (keep end : ℕ) (ends : end ≡ place_after_mark layout.mark keep (take used all)) where
@@ -55,12 +66,19 @@ module _ {X : Type 0} (layout : Layout X) (lay : Faithful layout) {all : List X}
     cut_keeps h = record { inside = omega (arith, cut_within, f.inside); shows = cut_shows h }
 
   -- the part of one clause, between two marks
-  module _ (k from to : ℕ) (d : Clause) (there : k < count) (starts : from ≡ place_after_mark layout.mark k (take used all)) (ends : to ≡ place_after_mark layout.mark (k + 1) (take used all)) where
+  module _ (k from to : ℕ) (d : Clause) (there : k < count)
+      (starts : from ≡ place_after_mark layout.mark k (take used all))
+      (ends : to ≡ place_after_mark layout.mark (k + 1) (take used all)) where
     pub part_is : between from to all ≡ layout.write (get_or (layout.read (take used all)) k d)
     part_is =
-        between_is all from to ∙ ap (drop from) (sym (take-take to used all (cut_within (k + 1) to ends))) ∙ sym (between_is (take used all) from to)
-        ∙ ap (λ n. between n to (take used all)) starts ∙ ap (λ n. between (place_after_mark layout.mark k (take used all)) n (take used all)) ends
+        between_is all from to ∙ ap (drop from) (sym (take-take to used all (cut_within (k + 1) to ends)))
+        ∙ sym (between_is (take used all) from to)
+        ∙ ap (λ n. between n to (take used all)) starts
+        ∙ ap (λ n. between (place_after_mark layout.mark k (take used all)) n (take used all)) ends
         ∙ part_of layout lay f.shows k d there
 
     pub part_inside : (from ≤ to) × (to ≤ length all)
-    part_inside = (omega (arith, starts, ends, after_more layout.mark k (take used all)), omega (arith, cut_within (k + 1) to ends, f.inside))
+    part_inside = (
+      omega (arith, starts, ends, after_more layout.mark k (take used all)),
+      omega (arith, cut_within (k + 1) to ends, f.inside),
+    )

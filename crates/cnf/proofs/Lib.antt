@@ -1,4 +1,5 @@
 pub mod GivingEach
+pub mod GivingAll
 pub mod PartlyGiven
 pub mod Marking
 pub mod Overwriting
@@ -10,4 +11,5 @@ pub mod Asking
 pub mod Limiting
 pub mod Giving
 pub mod Satisfying
+pub mod UnitLists
 mod Forming

@@ -7,3 +7,5 @@ pub mod Text
 pub mod Laws
 pub mod Tables
 pub mod Sheets
+pub mod Units
+pub mod FormedClause

@@ -1,7 +1,8 @@
--- Clauses as DIMACS text: a row for each clause, its literals in decimal, each followed by a space, then 0 and a line
--- feed. A clause without literals is 0 alone. And how a text is read: as numbers with spaces and line feeds between
--- them, of which each 0 ends a clause.
-use Rattle.std.specs.Prelude.{◌≡◌, ℕ, ◌+◌, ◌-◌, ◌*◌, Bool, true, false, cond, ◌&&◌, ◌||◌, List, [], ◌∷◌, ◌++◌, ℤ, pos, neg_ℤ, Some, None, Option, ◌==◌, nat_le}
+-- Clauses as DIMACS text: a row for each clause, which ends in 0 and a line feed; before these its literals in decimal,
+-- with a space after each. A clause without literals is 0 alone. And how a text is read: as numbers with spaces and
+-- line feeds between them, of which each 0 ends a clause.
+use Rattle.std.specs.Prelude.{◌≡◌, ℕ, ◌+◌, ◌-◌, ◌*◌, Bool, true, false, cond, ◌&&◌, ◌||◌, List, [], ◌∷◌, ◌++◌, ℤ, pos}
+use Rattle.std.specs.Prelude.{neg_ℤ, Some, None, Option, ◌==◌, nat_le}
 use Rattle.std.specs.Fmt.{signed_decimal}
 use Rattle.cnf.specs.Clauses.{Clause, all_well_formed}
 use Rattle.cnf.specs.Cells.{clauses_in}
@@ -30,15 +31,15 @@ abbrev pub signed_by : Bool → ℕ → ℤ
 signed_by true n = neg_ℤ (pos n)
 signed_by false n = pos n
 
-abbrev pub before : ℤ → Option (List ℤ) → Option (List ℤ)
-before z None = None
-before z (Some zs) = Some (z ∷ zs)
+abbrev pub with_number : ℤ → Option (List ℤ) → Option (List ℤ)
+with_number z None = None
+with_number z (Some zs) = Some (z ∷ zs)
 
 -- the number stands before the others, if there is one; a minus alone is none, and the text is no list of numbers
-abbrev pub ended : Bool → Option ℕ → Option (List ℤ) → Option (List ℤ)
-ended minus (Some n) rest = before (signed_by minus n) rest
-ended true None rest = None
-ended false None rest = rest
+abbrev pub with_read_number : Bool → Option ℕ → Option (List ℤ) → Option (List ℤ)
+with_read_number minus (Some n) rest = with_number (signed_by minus n) rest
+with_read_number true None rest = None
+with_read_number false None rest = rest
 
 -- a minus may come before the first digit, once
 abbrev pub may_sign : Bool → Option ℕ → Bool
@@ -47,9 +48,9 @@ may_sign false (Some n) = false
 may_sign true digits = false
 
 abbrev pub numbers_from : Bool → Option ℕ → List ℕ → Option (List ℤ)
-numbers_from minus digits [] = ended minus digits (Some [])
+numbers_from minus digits [] = with_read_number minus digits (Some [])
 numbers_from minus digits (b ∷ bs) =
-    cond (is_space b || is_feed b) (ended minus digits (numbers_from false None bs))
+    cond (is_space b || is_feed b) (with_read_number minus digits (numbers_from false None bs))
     (cond (nat_le 48 b && nat_le b 57) (numbers_from minus (Some (with_digit digits (b - 48))) bs)
     (cond (b == 45 && may_sign minus digits) (numbers_from true None bs) None))
 
@@ -80,4 +81,5 @@ text_of cs = written text_layout cs
 -- the text of well-formed clauses reads back as exactly these, so that two lists have never one text
 pub record TextReadsBack : Type 0 where
   pub back : (cs : List Clause) → all_well_formed cs ≡ true → read_text (text_of cs) ≡ Some cs
-  pub apart : (cs ds : List Clause) → all_well_formed cs ≡ true → all_well_formed ds ≡ true → text_of cs ≡ text_of ds → cs ≡ ds
+  pub apart : (cs ds : List Clause) → all_well_formed cs ≡ true → all_well_formed ds ≡ true → text_of cs ≡ text_of ds
+      → cs ≡ ds

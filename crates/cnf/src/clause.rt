@@ -2,37 +2,41 @@
 ghost use Rattle.std.specs.Prelude.{◌≡◌, true, is_some, IfSome};
 ghost use Rattle.cnf.specs.Clauses.{of_literals, literal_formed, well_formed};
 
-// The most literals that a clause may have, and the largest variable that one may name.
-const MOST_LITERALS: usize = 256;
+/// The most literals that a clause may have.
+pub const MOST_LITERALS: usize = 256;
 
-const LAST_VARIABLE: u32 = 60_000;
+/// The last number of a variable or an auxiliary that a literal may name. The first is 1.
+pub const LAST_NUMBER: u16 = 60_000;
 
 fn is_literal_formed(literal: i32) -> bool
     ensures { result ≡ literal_formed literal }
 {
     let variable = literal.unsigned_abs();
-    0 < variable && variable <= LAST_VARIABLE
+    0 < variable && variable <= u32::from(LAST_NUMBER)
 }
 
-// Whether a sheet may take the clause.
+/// Whether a sheet may take the clause: it has at most `MOST_LITERALS` literals, each of a number from 1 to
+/// `LAST_NUMBER`. A clause without literals is well-formed too.
 pub fn is_well_formed(clause: &[i32]) -> bool
     ensures { result ≡ well_formed (of_literals clause.now) }
 {
     clause.len() <= MOST_LITERALS && clause.iter().all(|literal| is_literal_formed(*literal))
 }
 
-// A clause that a sheet may take.
-#[derive(Clone, Copy)]
+/// A clause that a sheet may take.
+#[derive(Clone, Copy, PartialEq, Eq, Debug)]
 pub struct FormedClause<'a> {
     literals: &'a [i32],
     ghost formed: { well_formed (of_literals literals.now) ≡ true },
 }
 
 impl<'a> FormedClause<'a> {
-    // These literals, if a sheet may take them as a clause.
+    ghost use Rattle.cnf.specs.FormedClause.{clause_in};
+
+    /// The clause of these literals, or nothing where it is not well-formed.
     pub fn new(literals: &'a [i32]) -> Option<FormedClause<'a>>
         ensures formed { is_some result ≡ well_formed (of_literals literals.now) }
-        ensures same { IfSome result (λ clause. clause.literals.now ≡ literals.now) }
+        ensures same { IfSome result (λ clause. clause_in clause ≡ of_literals literals.now) }
     {
         if !is_well_formed(literals) {
             return None;
@@ -40,8 +44,9 @@ impl<'a> FormedClause<'a> {
         Some(FormedClause { literals })
     }
 
+    /// Its literals, in their order.
     pub fn literals(self) -> &'a [i32]
-        ensures { result.now ≡ self.entry.literals.now }
+        ensures { result.now ≡ (clause_in self.entry).literals }
     {
         self.literals
     }

@@ -1,4 +1,4 @@
-// Clauses, and what a sheet that holds them is.
+// Clauses, lists of them, and what a sheet that holds clauses is.
 #![tactic(auto)]
 
 pub mod clause;
@@ -6,3 +6,4 @@ pub mod listing;
 pub mod marks;
 pub mod sheet;
 pub mod sheet_fault;
+pub mod units;

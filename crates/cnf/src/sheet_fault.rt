@@ -1,4 +1,4 @@
-// What a sheet, a list of clauses over lent memory, can refuse.
+// What a sheet can refuse.
 
 /// Why a sheet refuses a call.
 #[derive(Clone, Copy, PartialEq, Eq, Debug)]
@@ -14,6 +14,8 @@ pub enum SheetCause {
 /// A sheet's refusal: why, and how many clauses the sheet held before the call.
 #[derive(Clone, Copy, PartialEq, Eq, Debug)]
 pub struct SheetFault {
+    /// Why.
     pub cause: SheetCause,
+    /// How many clauses the sheet held before the call.
     pub count: usize,
 }

@@ -1,14 +1,17 @@
-mod Neat
+mod ShortClauses
 mod Terms
+mod Parts
 mod Masks
 mod LeastSets
 mod LeastLists
 mod DirectNaming
 pub mod Directing
-mod Parts
 mod OrderNaming
 mod Matrix
 mod Places
 pub mod Ordering
 pub mod Modelling
 pub mod Choosing
+pub mod Wholes
+pub mod Extending
+pub mod Together

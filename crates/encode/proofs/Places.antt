@@ -24,7 +24,8 @@ module _ (v : Assignment) (first rows c : ℕ) (totals : ℕ → ℕ) where
       let wide = columns_there m rows c h in
       let i = m / c in
       let j = m % c in
-      let e : v (first + (i * c + j)) ≡ leb (suc j) (totals (suc i)) = all (suc i) (div_below m c rows wide h) (suc j) (mod_below m c wide) in
+      let row = all (suc i) (div_below m c rows wide h) in
+      let e : v (first + (i * c + j)) ≡ leb (suc j) (totals (suc i)) = row (suc j) (mod_below m c wide) in
       simp (div-add-mod', ← add-one) at e
 
   pub placed_filled : totals 0 ≡ 0 → Placed v first rows c totals → Filled v first rows c totals

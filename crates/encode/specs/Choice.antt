@@ -9,8 +9,8 @@ chosen_for most few many w = cond (nat_le (length w.terms) most) few many
 abbrev pub up_to : ℕ → Encoding → Encoding → Encoding
 up_to most few many =
     record {
-      reach = λ w. (chosen_for most few many w).reach w;
-      takes = λ w. (chosen_for most few many w).takes w;
-      clauses = λ w. (chosen_for most few many w).clauses w;
-      value = λ w. (chosen_for most few many w).value w;
+      reach = λ w first. (chosen_for most few many w).reach w first;
+      takes = λ w first. (chosen_for most few many w).takes w first;
+      clauses = λ w first. (chosen_for most few many w).clauses w first;
+      value = λ w first. (chosen_for most few many w).value w first;
     }

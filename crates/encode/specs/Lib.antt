@@ -1,8 +1,11 @@
 pub mod Law
 pub mod Calls
+pub mod Parts
 pub mod Order
 pub mod OrderWorked
 pub mod Direct
 pub mod DirectWorked
 pub mod Models
 pub mod Choice
+pub mod Solutions
+pub mod Extending

@@ -4,20 +4,22 @@ use Rattle.pb.specs.declared.working.Sense.TheVariants.{AtLeast, Exactly}
 use Rattle.pb.specs.Lines.{Working, empty_line, impossible_line}
 use Rattle.pb.specs.Worked.{working_term}
 use Rattle.cnf.specs.Clauses.{of_literals}
-use Rattle.encode.specs.DirectWorked.{of_ones}
+use Rattle.encode.specs.DirectWorked.{working_line, of_ones}
 use Rattle.encode.specs.Order.{order_list, order_reach}
 
 -- 2·1 + 1·2 at least 2
 abbrev pub two_terms : Working
-two_terms = record { sense = AtLeast; bound = 2; terms = working_term 2 (pos 1) ∷ working_term 1 (pos 2) ∷ [] }
+two_terms = working_line AtLeast 2 (working_term 2 (pos 1) ∷ working_term 1 (pos 2) ∷ [])
 
 pub record OrderWorkedCases : Type 0 where
   -- its auxiliaries are 3 and 4 in the first row, and 5 and 6 in the second
   pub matrix : order_list two_terms 3
       ≡ of_literals (negsuc 0 ∷ pos 3 ∷ []) ∷ of_literals (pos 1 ∷ negsuc 2 ∷ [])
       ∷ of_literals (negsuc 0 ∷ pos 4 ∷ []) ∷ of_literals (pos 1 ∷ negsuc 3 ∷ [])
-      ∷ of_literals (negsuc 2 ∷ pos 5 ∷ []) ∷ of_literals (negsuc 1 ∷ pos 5 ∷ []) ∷ of_literals (pos 2 ∷ pos 3 ∷ negsuc 4 ∷ [])
-      ∷ of_literals (negsuc 3 ∷ pos 6 ∷ []) ∷ of_literals (negsuc 1 ∷ negsuc 2 ∷ pos 6 ∷ []) ∷ of_literals (pos 2 ∷ pos 4 ∷ negsuc 5 ∷ []) ∷ of_literals (pos 3 ∷ negsuc 5 ∷ [])
+      ∷ of_literals (negsuc 2 ∷ pos 5 ∷ []) ∷ of_literals (negsuc 1 ∷ pos 5 ∷ [])
+      ∷ of_literals (pos 2 ∷ pos 3 ∷ negsuc 4 ∷ [])
+      ∷ of_literals (negsuc 3 ∷ pos 6 ∷ []) ∷ of_literals (negsuc 1 ∷ negsuc 2 ∷ pos 6 ∷ [])
+      ∷ of_literals (pos 2 ∷ pos 4 ∷ negsuc 5 ∷ []) ∷ of_literals (pos 3 ∷ negsuc 5 ∷ [])
       ∷ of_literals (pos 6 ∷ []) ∷ []
   pub twelve : length (order_list two_terms 3) ≡ 12
   -- no terms: at least 1 is the clause that nothing satisfies, at least 0 and exactly 0 are none
@@ -28,7 +30,8 @@ pub record OrderWorkedCases : Type 0 where
   pub at_least_zero : order_list (of_ones AtLeast 1 0) 2 ≡ []
   -- 1·1 exactly 0: one column
   pub exactly_zero : order_list (of_ones Exactly 1 0) 2
-      ≡ of_literals (negsuc 0 ∷ pos 2 ∷ []) ∷ of_literals (pos 1 ∷ negsuc 1 ∷ []) ∷ of_literals (negsuc 1 ∷ []) ∷ []
+      ≡ of_literals (negsuc 0 ∷ pos 2 ∷ []) ∷ of_literals (pos 1 ∷ negsuc 1 ∷ [])
+      ∷ of_literals (negsuc 1 ∷ []) ∷ []
   -- 1·1 exactly 1, its whole sum: s(1, 1) and not s(1, 2)
   pub exactly_sum : order_list (of_ones Exactly 1 1) 2
       ≡ of_literals (negsuc 0 ∷ pos 2 ∷ []) ∷ of_literals (pos 1 ∷ negsuc 1 ∷ [])

@@ -4,11 +4,12 @@ ghost use Rattle.encode.specs.declared.encode_fault.EncodeFault.TheVariants.{She
 
 use cnf::sheet_fault::SheetFault;
 
+/// Why a line was not encoded.
 #[derive(Clone, Copy, PartialEq, Eq, Debug)]
 pub enum EncodeFault {
-    // the line is out of the encoder's reach
+    /// The line is out of the encoder's reach.
     Reach,
-    // the sheet refused the line's clauses
+    /// The sheet refused the line's clauses.
     Sheet(SheetFault),
 }
 

@@ -3,5 +3,5 @@
 
 pub mod choice;
 pub mod direct;
+mod giving;
 pub mod order;
-mod part;

@@ -1,5 +1,5 @@
-// What can be wrong with a schedule file: a fault of its form, or a line's or the book's own fault, whole, with the offset of the
-// record that it was met at.
+// What can be wrong with a schedule file: a fault of its form, or a line's or the book's own fault, whole, with the
+// offset of the record that it was met at.
 ghost use Rattle.std.specs.Prelude.{◌≡◌};
 ghost use Rattle.fault.specs.declared.file.FileFault.TheVariants.{Line, Book};
 

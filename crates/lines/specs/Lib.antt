@@ -1,3 +1,4 @@
+pub mod CheckedLine
 pub mod Nets
 pub mod Forms
 pub mod Tables

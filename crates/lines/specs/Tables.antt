@@ -10,7 +10,7 @@ pub record HoldsTerms (wanted : List WorkingTerm) (count : ℕ) (before after : 
   pub within : count ≤ length after
   pub rest : drop count after ≡ drop count before
 
--- the head over the table is the wanted line, and the entries past it are as before: all of them, where it has no terms
+-- the head over the table is the wanted line, and the entries past it are as before: all, where it has no terms
 pub record HoldsLine (wanted : Working) (h : WorkingHead) (before after : List WorkingTerm) : Type 0 where
   pub line : wanted ≡ line_in h after
   pub within : h.count ≤ length after

@@ -1,20 +1,19 @@
 // Which lines are refused, and by what.
 ghost use Rattle.std.specs.Prelude.{◌≡◌, Some, None, MatchResult};
 ghost use Rattle.pb.specs.Checks.{sized, checked_head, terms_fault};
+ghost use Rattle.pb.specs.Variables.{variable_count};
 
+use pb::constraint::{MOST_BOUND, MOST_TERMS};
 use pb::line_fault::LineFault;
 use pb::relation::Relation;
-use pb::term::Term;
+use pb::term::{MOST_WEIGHT, Term};
 use pb::variables::Variables;
 
-const MOST_BOUND: u32 = 1_000_000;
-
-const MOST_TERMS: usize = 64;
-
-const MOST_WEIGHT: u32 = 10_000;
-
-// The relation of a line by its number, where its bound and the number of its terms are in range.
-// the number as it is read, since a number that has no relation is refused here, in the order of the faults.
+/// The relation of a line by its number, where its bound and the number of its terms are in range.
+///
+/// # Errors
+///
+/// The first fault of these: the relation, the bound, the number of terms.
 pub fn check_head(relation: u8, bound: i32, terms: usize) -> Result<Relation, LineFault>
     ensures { result ≡ checked_head relation bound terms }
 {
@@ -36,9 +35,15 @@ pub(crate) fn check_size(bound: i32, terms: usize) -> Result<(), LineFault>
     Ok(())
 }
 
-// Each term's literal and then its weight, term by term.
+/// Whether every term is of a variable of the job, and of a weight in range.
+///
+/// # Errors
+///
+/// The first fault, term by term: of each its literal, then its weight.
 pub fn check_terms(variables: Variables, terms: &[Term]) -> Result<(), LineFault>
-    ensures { MatchResult result (λ _. terms_fault variables.count 1 terms.now ≡ None) (λ e. terms_fault variables.count 1 terms.now ≡ Some e) }
+    ensures { MatchResult result
+        (λ _. terms_fault (variable_count variables) 1 terms.now ≡ None)
+        (λ e. terms_fault (variable_count variables) 1 terms.now ≡ Some e) }
 {
     let most = variables.count();
     for (i, term) in terms.iter().enumerate() {

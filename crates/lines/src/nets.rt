@@ -1,44 +1,47 @@
 // The net weights of a line's variables, and what a normal form takes from them.
-ghost use Rattle.std.specs.Prelude.{◌≡◌, ℕ, ◌≤◌, [], ◌∷◌, length, take, drop, pos, ◌+ℤ◌, ◌≢◌, unsigned_abs};
-ghost use Rattle.pb.specs.Checks.{IsTermInRange, PassesChecks};
-ghost use Rattle.pb.specs.Lines.{entered_line};
-ghost use Rattle.pb.specs.Normal.{negated, weight_under, share, lowering, lowered, raise_of, raised, term_of, gathered};
-ghost use Rattle.lines.specs.Nets.{at, NetsOf, Within};
+ghost use Rattle.std.specs.Prelude.{◌≡◌, ℕ, ◌*◌, ◌≤◌, [], ◌∷◌, length, take, drop, pos, ◌+ℤ◌, ◌≢◌, unsigned_abs};
+ghost use Rattle.pb.specs.declared.term.TheConstants.{MOST_WEIGHT};
+ghost use Rattle.pb.specs.declared.variables.TheConstants.{MOST_VARIABLES};
+ghost use Rattle.pb.specs.declared.working.TheConstants.{MOST_WEIGHT_SUM};
+ghost use Rattle.pb.specs.Checks.{IsTermInRange};
+ghost use Rattle.pb.specs.Normal.{negated, weight_under, share, lowering, lowered, raise_of, raised, term_of};
+ghost use Rattle.pb.specs.Normal.{gathered};
+ghost use Rattle.lines.specs.CheckedLine.{checked_variables, checked_line};
+ghost use Rattle.lines.specs.Nets.{net_in, IsNetsOf, IsWithin};
 
-use pb::constraint::Constraint;
+use crate::checked_line::CheckedLine;
 use pb::relation::Relation;
 use pb::term::Term;
-use pb::variables::Variables;
+use pb::variables::MOST_VARIABLES;
 use pb::working::WorkingTerm;
 
-// The net weights of a line that nothing is wrong with, each at its variable's number, and how far
-// the terms on complements lower the bound.
+// One place for each number that a variable may have, and one for 0.
+const PLACES: usize = MOST_VARIABLES as usize + 1;
+
+// The net weights of a line, each at its variable's number, and how far the terms on complements
+// lower the bound.
 #[derive(Drop)]
 pub(crate) struct Nets<'a> {
-    variables: Variables,
-    line: Constraint<'a>,
-    // one place for each number that a variable may have, and no heap.
-    table: [i32; 257],
+    line: CheckedLine<'a>,
+    // An array, so that no heap is needed.
+    table: [i32; PLACES],
     lowered_by: i32,
-    ghost sound: { PassesChecks variables.count (entered_line line) },
-    ghost tabled: { NetsOf (negated line.relation) line.terms.now table },
-    ghost summed: { lowered_by ≡ lowered (negated line.relation) line.terms.now },
+    ghost tabled: { IsNetsOf (negated (checked_line line).relation) (checked_line line).terms table },
+    ghost summed: { lowered_by ≡ lowered (negated (checked_line line).relation) (checked_line line).terms },
 }
 
 impl<'a> Nets<'a> {
-    pub(crate) fn new(variables: Variables, line: Constraint<'a>) -> Nets<'a>
-        requires { PassesChecks variables.count (entered_line line) }
-        ensures variables { result.variables ≡ variables }
-        ensures line { entered_line result.line ≡ entered_line line.entry }
+    pub(crate) fn new(line: CheckedLine<'a>) -> Nets<'a>
+        ensures variables { checked_variables result.line ≡ checked_variables line.entry }
+        ensures line { checked_line result.line ≡ checked_line line.entry }
     {
-        let negate = is_negated(line.relation);
-        let mut table = [0; 257];
+        let negate = is_negated(line.line.relation);
+        let mut table = [0; PLACES];
         let mut lowered_by = 0;
-        for term in line.terms {
+        for term in line.line.terms {
             lowered_by += add_term(negate, *term, &mut table);
         }
         Nets {
-            variables,
             line,
             table,
             lowered_by,
@@ -47,30 +50,30 @@ impl<'a> Nets<'a> {
 
     // How far the bound falls.
     pub(crate) fn lowered(&self) -> i32
-        ensures { result ≡ lowered (negated self.now.line.relation) self.now.line.terms.now }
+        ensures { result ≡ lowered (negated (checked_line self.now.line).relation) (checked_line self.now.line).terms }
     {
         self.lowered_by
     }
 
     // How far the negative net weights raise the bound.
     pub(crate) fn raised(&self) -> u32
-        ensures sum { result ≡ raised self.now.variables.count 1 (at self.now.table) }
-        ensures fits { result ≤ 640000 }
+        ensures sum { result ≡ raised (checked_variables self.now.line) 1 (net_in self.now.table) }
+        ensures fits { result ≤ MOST_WEIGHT_SUM }
     {
-        let last = usize::from(self.variables.count());
+        let last = usize::from(self.line.variables.count());
         self.table[1..=last].iter().map(|net| raise_by(*net)).sum()
     }
 
     // Writes the terms of the variables whose net weight is not 0, by rising variable, and answers
     // how many they are.
-    // the count is the answer; tried `(1..=last).zip(..)` over the table's part: which number and entry a turn of a range beside a slice has, and so the loop's step, did not close.
-    pub(crate) fn gather(&self, form: &mut [WorkingTerm; 64]) -> usize
-        ensures number { result ≡ length (gathered self.now.variables.count 1 (at self.now.table)) }
-        ensures terms { take result form.new ≡ gathered self.now.variables.count 1 (at self.now.table) }
+    pub(crate) fn gather(&self, form: &mut [WorkingTerm]) -> usize
+        requires { length (checked_line self.now.line).terms ≤ length form.old }
+        ensures number { result ≡ length (gathered (checked_variables self.now.line) 1 (net_in self.now.table)) }
+        ensures terms { take result form.new ≡ gathered (checked_variables self.now.line) 1 (net_in self.now.table) }
         ensures rest { drop result form.new ≡ drop result form.old }
     {
         let mut count = 0;
-        for v in 1..=self.variables.count() {
+        for v in 1..=self.line.variables.count() {
             let net = self.table[usize::from(v)];
             if net != 0 {
                 form[count] = term_from(v, net);
@@ -87,17 +90,18 @@ fn is_negated(relation: Relation) -> bool
 {
     match relation {
         Relation::AtMost | Relation::LessThan => true,
-        _ => false,
+        Relation::AtLeast | Relation::Exactly | Relation::MoreThan => false,
     }
 }
 
 // A weight on a complement is one of the opposite sign on the variable, and lowers the bound, by as
 // much as the answer says.
-fn add_term(negate: bool, term: Term, table: &mut [i32; 257]) -> i32
-    requires fair { IsTermInRange 256 term }
-    requires within { Within 1280000 table.old }
+fn add_term(negate: bool, term: Term, table: &mut [i32; PLACES]) -> i32
+    requires in_range { IsTermInRange MOST_VARIABLES term }
+    requires within { IsWithin (2 * MOST_WEIGHT_SUM) table.old }
     ensures sum { result ≡ lowering term.literal (weight_under negate term) }
-    ensures table { (v : ℕ) → at table.new v ≡ at table.old v +ℤ share v term.literal (weight_under negate term) }
+    ensures table { (v : ℕ)
+        → net_in table.new v ≡ net_in table.old v +ℤ share v term.literal (weight_under negate term) }
 {
     let weight = weight_of(negate, term);
     let variable = usize::from(term.literal.unsigned_abs());
@@ -110,9 +114,8 @@ fn add_term(negate: bool, term: Term, table: &mut [i32; 257]) -> i32
 }
 
 // The weight of a term, negated if asked.
-// a bool in weight_of and add_term, since the definitions negate by this same one.
 fn weight_of(negate: bool, term: Term) -> i32
-    requires { unsigned_abs term.weight ≤ 10000 }
+    requires { unsigned_abs term.weight ≤ MOST_WEIGHT }
     ensures { result ≡ weight_under negate term }
 {
     if negate { -term.weight } else { term.weight }
@@ -127,7 +130,7 @@ fn raise_by(net: i32) -> u32
 
 // The term of a variable with this net weight: one on its complement where that is negative.
 fn term_from(variable: u16, net: i32) -> WorkingTerm
-    requires { (variable ≤ 256) × (net ≢ pos 0) }
+    requires { (variable ≤ MOST_VARIABLES) × (net ≢ pos 0) }
     ensures { term_of variable net ≡ result ∷ [] }
 {
     let literal = variable as i16;

@@ -1,42 +1,25 @@
 // The normal form of a line: "at least" or "exactly", a bound that is not negative, and for each
 // variable at most one term, of positive weight, by rising variable.
-ghost use Rattle.std.specs.Prelude.{◌≡◌, ◌≤◌, MatchResult, unsigned_abs};
-ghost use Rattle.pb.specs.Checks.{PassesChecks};
-ghost use Rattle.pb.specs.Lines.{entered_line};
+ghost use Rattle.std.specs.Prelude.{◌≡◌, ◌≤◌, length, unsigned_abs};
+ghost use Rattle.pb.specs.declared.constraint.TheConstants.{MOST_BOUND};
 ghost use Rattle.pb.specs.Normal.{threshold};
-ghost use Rattle.lines.specs.Forms.{Formed, Refused, Floor};
+ghost use Rattle.lines.specs.CheckedLine.{checked_variables, checked_line};
+ghost use Rattle.lines.specs.Forms.{Formed, Floor};
 
-use crate::check::{check_size, check_terms};
+use crate::checked_line::CheckedLine;
 use crate::nets::Nets;
-use pb::constraint::Constraint;
-use pb::line_fault::LineFault;
 use pb::relation::Relation;
-use pb::variables::Variables;
 use pb::working::{Sense, WorkingHead, WorkingTerm};
 
-// Checks a line and writes the terms of its normal form into the table.
-pub fn normal_form(
-    variables: Variables,
-    line: Constraint<'_>,
-    form: &mut [WorkingTerm; 64],
-) -> Result<WorkingHead, LineFault>
-    ensures { MatchResult result
-        (λ f. Formed variables.count (entered_line line.entry) f form.old form.new)
-        (λ e. Refused variables.count (entered_line line.entry) e form.old form.new) }
+// The normal form of a checked line, its terms in the first places of a table that has room for them.
+pub(crate) fn form_of(line: CheckedLine<'_>, form: &mut [WorkingTerm]) -> WorkingHead
+    requires { length (checked_line line).terms ≤ length form.old }
+    ensures { Formed (checked_variables line.entry) (checked_line line.entry) result form.old form.new }
 {
-    check_size(line.bound, line.terms.len())?;
-    check_terms(variables, line.terms)?;
-    Ok(form_of(variables, line, form))
-}
-
-// The normal form of a line that nothing is wrong with.
-fn form_of(variables: Variables, line: Constraint<'_>, form: &mut [WorkingTerm; 64]) -> WorkingHead
-    requires { PassesChecks variables.count (entered_line line) }
-    ensures { Formed variables.count (entered_line line.entry) result form.old form.new }
-{
-    let nets = Nets::new(variables, line);
-    let sense = Sense::from(line.relation);
-    let bound = bound_from(line.relation, line.bound) - nets.lowered() + nets.raised() as i32;
+    let nets = Nets::new(line);
+    let relation = line.line.relation;
+    let sense = Sense::from(relation);
+    let bound = bound_from(relation, line.line.bound) - nets.lowered() + nets.raised() as i32;
     let Some(bound) = floor(sense, bound) else {
         return WorkingHead::IMPOSSIBLE;
     };
@@ -50,7 +33,7 @@ fn form_of(variables: Variables, line: Constraint<'_>, form: &mut [WorkingTerm; 
 
 // The bound once the relation is "at least" or "exactly".
 fn bound_from(relation: Relation, bound: i32) -> i32
-    requires { unsigned_abs bound ≤ 1000000 }
+    requires { unsigned_abs bound ≤ MOST_BOUND }
     ensures { result ≡ threshold relation bound }
 {
     match relation {

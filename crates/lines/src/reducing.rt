@@ -1,5 +1,6 @@
 // What is left of a line where a literal holds.
 ghost use Rattle.pb.specs.Laws.{ReducedKeeps, ReducedIsNormal};
+ghost use Rattle.pb.specs.Laws.{ReducedDropsVariable, ReducedNamesNoMore, ReducedSameWhereUnnamed};
 ghost use Rattle.pb.specs.Settled.{others, reduced};
 ghost use Rattle.lines.specs.Tables.{HoldsTerms, HoldsLine};
 
@@ -7,7 +8,7 @@ use crate::sums::total_on;
 use pb::working::{Sense, WorkingHead, WorkingTerm};
 
 // Moves the terms of other variables to the front, in their order, and says how many they are.
-// a lent slice has no `retain`, and no iterator reads a slice that the loop writes, so that both places are counted.
+// A loop over places, since a lent slice has no `retain`.
 fn keep_others(literal: i32, terms: &mut [WorkingTerm]) -> usize
     ensures { HoldsTerms (others literal terms.old) result terms.old terms.new }
 {
@@ -23,14 +24,18 @@ fn keep_others(literal: i32, terms: &mut [WorkingTerm]) -> usize
     count
 }
 
-// Drops the literal's variable from a line, and takes the weight on the literal from its bound:
-// below 0, "at least" stops at 0, and "exactly" cannot be met, which leaves the table alone.
-// sense and bound beside the terms: a struct that lends the table would be made for this call alone, which answers a WorkingHead.
-#[tactic(auto, using(pb::proofs::Settling::reduced_keeps))]
+/// Drops the literal's variable from a line whose terms are the whole table, and takes the weight on
+/// the literal from its bound. Below 0, "at least" stops at 0, and "exactly" cannot be met, which
+/// leaves the table as it was.
+#[tactic(auto, using(pb::proofs::Laws::reduced_laws))]
 pub fn reduce(literal: i32, sense: Sense, bound: u32, terms: &mut [WorkingTerm]) -> WorkingHead
-    ensures left { HoldsLine (reduced literal (record { sense = sense; bound = bound; terms = terms.old })) result terms.old terms.new }
+    ensures left { HoldsLine (reduced literal (record { sense = sense; bound = bound; terms = terms.old }))
+        result terms.old terms.new }
     ensures keeps { ReducedKeeps }
     ensures is_normal { ReducedIsNormal }
+    ensures drops { ReducedDropsVariable }
+    ensures names { ReducedNamesNoMore }
+    ensures same { ReducedSameWhereUnnamed }
 {
     let weight = total_on(literal, terms);
     let left = match sense {

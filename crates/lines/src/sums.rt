@@ -1,4 +1,4 @@
-// Sums of weights. A table may have any length, so that only 128 bits hold them.
+// Sums of weights, in 128 bits, since a table may have any length.
 ghost use Rattle.std.specs.Prelude.{◌≡◌};
 ghost use Rattle.pb.specs.Settled.{same_literal, weight_on};
 ghost use Rattle.pb.specs.Sums.{weight_sum};

@@ -2,7 +2,9 @@
 #![tactic(auto)]
 
 ghost use Rattle.std.specs.Prelude.{◌≡◌, length, take, Err, MatchResult, IfOk};
+ghost use Rattle.output.specs.declared.TheConstants.{INPUT};
 ghost use Rattle.output.specs.Printed.{limited, text_outcome, Printed};
+ghost use Rattle.sheets.specs.FinishedText.{text_in};
 ghost use Rattle.translate.specs.Solutions.{Meant};
 ghost use Rattle.translate.specs.Translation.{Done, encoding, translation};
 
@@ -19,32 +21,36 @@ use std::io::Write;
 use translate::header::Header;
 use translate::translate;
 
-// The longest input that is looked at, the room for the text, and the most clauses.
+/// How many bytes of a file are looked at.
 pub const INPUT: usize = 8192;
 
+// How many bytes the text may have.
 const TEXT: usize = 24_576;
 
-const CLAUSES: usize = 4_000;
+/// The most clauses of a file.
+pub const CLAUSES: usize = 4_000;
 
 // Writes the clauses of a file's first bytes to a sheet, or none where they go past the limit.
 fn write_limited<S: Sheet>(file: &[u8], sheet: &mut S) -> Result<Header, Refusal>
     ensures cases { MatchResult result
-        (λ h. Done encoding (limited (S.Sheet.fits sheet.old) (S.Sheet.held sheet.old)) (take 8192 file.now) (S.Sheet.held sheet.old) (S.Sheet.held sheet.new) h)
-        (λ r. translation encoding (limited (S.Sheet.fits sheet.old) (S.Sheet.held sheet.old)) (S.Sheet.held sheet.old) (take 8192 file.now) ≡ Err r) }
-    ensures means { IfOk result (λ h. Meant (take 8192 file.now) (S.Sheet.held sheet.old) (S.Sheet.held sheet.new) h) }
+        (λ h. Done encoding (limited (S.Sheet.fits sheet.old) (S.Sheet.held sheet.old)) (take INPUT file.now)
+        (S.Sheet.held sheet.old) (S.Sheet.held sheet.new) h)
+        (λ r. translation encoding (limited (S.Sheet.fits sheet.old) (S.Sheet.held sheet.old)) (S.Sheet.held sheet.old)
+        (take INPUT file.now) ≡ Err r) }
+    ensures means { IfOk result (λ h. Meant (take INPUT file.now) (S.Sheet.held sheet.old) (S.Sheet.held sheet.new) h) }
 {
     let seen = INPUT.min(file.len());
     let mut limited = Ceiling::new(sheet, CLAUSES);
     translate(&file[0..seen], &mut limited)
 }
 
-// The clause text of a file's first bytes, in lent bytes, with what stands before it; or why there is none.
+/// The clause text of a file's first bytes, in lent bytes, with what stands before it; or why there is none.
 pub fn clause_text<'a>(
     file: &[u8],
     bytes: &'a mut [u8],
 ) -> Result<(Header, FinishedText<'a>), Refusal>
     ensures { MatchResult result
-        (λ r. Printed (length bytes.old) file.now r.0 r.1.bytes.now)
+        (λ r. Printed (length bytes.old) file.now r.0 (text_in r.1))
         (λ r. text_outcome (length bytes.old) file.now ≡ Err r) }
 {
     let mut text = TextSheet::new(bytes);
@@ -52,9 +58,10 @@ pub fn clause_text<'a>(
     Ok((header, finish(text)))
 }
 
-// Prints what comes of a file. No contract can say what is printed: it is what `clause_text` answers.
+/// Prints what comes of a file. No contract can say what is printed: it is what `clause_text` answers.
 pub fn print(rt: &HostRuntime, file: &[u8]) -> io::Result<()> {
-    // an array of the most bytes, since a sheet writes to memory that it is lent, and no library takes any from the heap.
+    // an array of the most bytes, since a sheet writes to memory that it is lent, and no library takes any from the
+    // heap.
     let mut bytes = [0; TEXT];
     match clause_text(file, &mut bytes) {
         Ok((header, text)) => {

@@ -1,10 +1,12 @@
--- What is gathered and raised from net weights depends only on those of the variables at hand; the terms gathered from a
--- line's net weights are in normal form, no more than the line has, and weigh no more than these.
-use Rattle.std.proofs.Common.{◌≡◌, ℕ, zero, suc, ◌+◌, ◌*◌, ◌<◌, ◌≤◌, Bool, true, ◌≢◌, List, [], ◌∷◌, ◌++◌, length, ℤ, pos, negsuc, nat_abs, refl, ap, inl, inr, arith}
+-- What is gathered and raised from net weights depends only on those of the variables at hand; the terms gathered from
+-- a line's net weights are in normal form, no more than the line has, and weigh no more than these.
+use Rattle.std.proofs.Common.{◌≡◌, ℕ, zero, suc, ◌+◌, ◌*◌, ◌<◌, ◌≤◌, Bool, true, ◌≢◌, List, [], ◌∷◌, ◌++◌, length, ℤ}
+use Rattle.std.proofs.Common.{pos, negsuc, nat_abs, refl, ap, inl, inr, arith}
 use Rattle.std.specs.List.{AllByRecursion}
 use Rattle.std.proofs.lemmas.List.{length-append}
 use Rattle.std.proofs.lemmas.Int.{ints}
 use Rattle.std.proofs.lemmas.Bool.{cases_eq, le-leb, lt-ltb}
+use Rattle.pb.specs.declared.term.TheConstants.{MOST_WEIGHT}
 use Rattle.pb.specs.declared.term.Term.{Term}
 use Rattle.pb.specs.declared.working.WorkingTerm.{WorkingTerm}
 use Rattle.pb.specs.Checks.{IsTermInRange}
@@ -14,20 +16,20 @@ use Rattle.pb.specs.WorkingForm.{normal_terms}
 use Rattle.pb.proofs.Ranges.{share_on_other, share_small, under_small}
 
 -- two functions that agree on the k variables from v on
-abbrev Agree : ℕ → ℕ → (ℕ → ℤ) → (ℕ → ℤ) → Type 0
-Agree k v f g = (u : ℕ) → v ≤ u → u < v + k → f u ≡ g u
+abbrev AgreeFrom : ℕ → ℕ → (ℕ → ℤ) → (ℕ → ℤ) → Type 0
+AgreeFrom k v f g = (u : ℕ) → v ≤ u → u < v + k → f u ≡ g u
 
-rest_agrees : (k v : ℕ) (f g : ℕ → ℤ) → Agree (suc k) v f g → Agree k (suc v) f g
+rest_agrees : (k v : ℕ) (f g : ℕ → ℤ) → AgreeFrom (suc k) v f g → AgreeFrom k (suc v) f g
 rest_agrees k v f g h u low high = h u (omega arith) (omega arith)
 
-pub gathered_same : (k v : ℕ) (f g : ℕ → ℤ) → Agree k v f g → gathered k v f ≡ gathered k v g
+pub gathered_same : (k v : ℕ) (f g : ℕ → ℤ) → AgreeFrom k v f g → gathered k v f ≡ gathered k v g
 gathered_same zero v f g h = refl
 gathered_same (suc k) v f g h =
     let here : f v ≡ g v = h v (omega arith) (omega arith) in
     let rest = gathered_same k (suc v) f g (rest_agrees k v f g h) in
     rw (here, rest) refl
 
-pub raised_same : (k v : ℕ) (f g : ℕ → ℤ) → Agree k v f g → raised k v f ≡ raised k v g
+pub raised_same : (k v : ℕ) (f g : ℕ → ℤ) → AgreeFrom k v f g → raised k v f ≡ raised k v g
 raised_same zero v f g h = refl
 raised_same (suc k) v f g h =
     let here : f v ≡ g v = h v (omega arith) (omega arith) in
@@ -41,7 +43,8 @@ one_term v (pos (suc p)) = omega arith
 one_term v (negsuc p) = omega arith
 
 -- functions that differ at one variable u gather lists whose lengths differ by at most one
-gathered_near : (k v u : ℕ) (f g : ℕ → ℤ) → ((w : ℕ) → w ≢ u → f w ≡ g w) → length (gathered k v f) ≤ suc (length (gathered k v g))
+gathered_near : (k v u : ℕ) (f g : ℕ → ℤ) → ((w : ℕ) → w ≢ u → f w ≡ g w)
+    → length (gathered k v f) ≤ suc (length (gathered k v g))
 gathered_near zero v u f g h = omega arith
 gathered_near (suc k) v u f g h =
     simp length-append (elim (cases_eq v u) [
@@ -80,14 +83,16 @@ weight_append : (xs ys : List WorkingTerm) → weight_sum (xs ++ ys) ≡ weight_
 weight_append [] ys = omega arith
 weight_append (x ∷ xs) ys = let e = weight_append xs ys in omega arith
 
-gathered_weight : (k v : ℕ) (f : ℕ → ℤ) → weight_sum (gathered (suc k) v f) ≡ nat_abs (f v) + weight_sum (gathered k (suc v) f)
+gathered_weight : (k v : ℕ) (f : ℕ → ℤ)
+    → weight_sum (gathered (suc k) v f) ≡ nat_abs (f v) + weight_sum (gathered k (suc v) f)
 gathered_weight k v f =
     let e = weight_append (term_of v (f v)) (gathered k (suc v) f) in
     let d = term_weight v (f v) in
     omega arith
 
 -- functions that differ at one variable u, and there by at most d, gather terms that weigh at most d more
-weight_near : (k v u d : ℕ) (f g : ℕ → ℤ) → ((w : ℕ) → w ≢ u → f w ≡ g w) → nat_abs (f u) ≤ d + nat_abs (g u) → weight_sum (gathered k v f) ≤ d + weight_sum (gathered k v g)
+weight_near : (k v u d : ℕ) (f g : ℕ → ℤ) → ((w : ℕ) → w ≢ u → f w ≡ g w) → nat_abs (f u) ≤ d + nat_abs (g u)
+    → weight_sum (gathered k v f) ≤ d + weight_sum (gathered k v g)
 weight_near zero v u d f g h m = omega arith
 weight_near (suc k) v u d f g h m =
     let fs = gathered_weight k v f in
@@ -103,13 +108,14 @@ weight_near (suc k) v u d f g h m =
           omega arith
     ]
 
-pub gathered_light : (n v m : ℕ) (b : Bool) (ts : List Term) → AllByRecursion (IsTermInRange m) ts → weight_sum (gathered n v (net b ts)) ≤ 10000 * length ts
+pub gathered_light : (n v m : ℕ) (b : Bool) (ts : List Term) → AllByRecursion (IsTermInRange m) ts
+    → weight_sum (gathered n v (net b ts)) ≤ MOST_WEIGHT * length ts
 gathered_light n v m b [] h = let e = ap weight_sum (gathered_none n v) in omega arith
 gathered_light n v m b (t ∷ ts) h =
     let u = nat_abs t.literal in
     let one = share_small u t.literal (weight_under b t) (under_small m b t h.0) in
-    let more : nat_abs (net b (t ∷ ts) u) ≤ 10000 + nat_abs (net b ts u) = omega (arith, ints) in
-    let near = weight_near n v u 10000 (net b (t ∷ ts)) (net b ts) (net_elsewhere b t ts) more in
+    let more : nat_abs (net b (t ∷ ts) u) ≤ MOST_WEIGHT + nat_abs (net b ts u) = omega (arith, ints) in
+    let near = weight_near n v u MOST_WEIGHT (net b (t ∷ ts)) (net b ts) (net_elsewhere b t ts) more in
     let light = gathered_light n v m b ts h.1 in
     omega arith
 
@@ -126,13 +132,20 @@ raised_light (suc k) v f =
     let rest = raised_light k (suc v) f in
     omega arith
 
--- the term of a variable above `below`, before terms that are in normal form above that variable, or above what lies below it
-normal_more : (n below v : ℕ) (z : ℤ) (ts : List WorkingTerm) → below < v → v ≤ n → ((low : ℕ) → low < suc v → normal_terms n low ts ≡ true) → normal_terms n below (term_of v z ++ ts) ≡ true
+-- the term of a variable above `below`, before terms that are in normal form above that variable and above what lies
+-- below it
+normal_more : (n below v : ℕ) (z : ℤ) (ts : List WorkingTerm) → below < v → v ≤ n
+    → ((low : ℕ) → low < suc v → normal_terms n low ts ≡ true) → normal_terms n below (term_of v z ++ ts) ≡ true
 normal_more n below zero z ts h m rest = absurd (omega arith)
 normal_more n below (suc v) (pos zero) ts h m rest = rest below (omega arith)
-normal_more n below (suc v) (pos (suc p)) ts h m rest = rw (lt-ltb 0 (suc p) (omega arith), lt-ltb below (suc v) h, le-leb (suc v) n m) (rest (suc v) (omega arith))
-normal_more n below (suc v) (negsuc p) ts h m rest = rw (lt-ltb 0 (suc p) (omega arith), lt-ltb below (suc v) h, le-leb (suc v) n m) (rest (suc v) (omega arith))
+normal_more n below (suc v) (pos (suc p)) ts h m rest =
+    rw (lt-ltb 0 (suc p) (omega arith), lt-ltb below (suc v) h, le-leb (suc v) n m) (rest (suc v) (omega arith))
+normal_more n below (suc v) (negsuc p) ts h m rest =
+    rw (lt-ltb 0 (suc p) (omega arith), lt-ltb below (suc v) h, le-leb (suc v) n m) (rest (suc v) (omega arith))
 
-pub gathered_is_normal : (n k v : ℕ) (f : ℕ → ℤ) → v + k ≤ suc n → (below : ℕ) → below < v → normal_terms n below (gathered k v f) ≡ true
+pub gathered_is_normal : (n k v : ℕ) (f : ℕ → ℤ) → v + k ≤ suc n → (below : ℕ) → below < v
+    → normal_terms n below (gathered k v f) ≡ true
 gathered_is_normal n zero v f most below h = refl
-gathered_is_normal n (suc k) v f most below h = normal_more n below v (f v) (gathered k (suc v) f) h (omega arith) (gathered_is_normal n k (suc v) f (omega arith))
+gathered_is_normal n (suc k) v f most below h =
+    normal_more n below v (f v) (gathered k (suc v) f) h (omega arith)
+    (gathered_is_normal n k (suc v) f (omega arith))

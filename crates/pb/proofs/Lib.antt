@@ -1,13 +1,16 @@
-mod Spreads
+pub mod Spreads
 pub mod Ranges
 pub mod Gathered
-pub mod Keeping
+pub mod NormalMeaning
 pub mod Normalizing
-mod Divisors
-mod Scaling
-mod Outcomes
+pub mod Divisors
+pub mod Scaling
+pub mod Outcomes
 pub mod Tightening
 pub mod Firsts
-mod Reducing
+pub mod Reducing
 pub mod Settling
-pub mod Cases
+pub mod Naming
+pub mod Forms
+pub mod Laws
+pub mod WorkedCases

@@ -1,6 +1,7 @@
 -- The sum of what the true ones of a run of variables count: it is linear, a literal's share comes to what the literal
 -- counts, and the terms gathered from net weights weigh as much as these, raised.
-use Rattle.std.proofs.Common.{◌≡◌, ℕ, zero, suc, ◌+◌, ◌<◌, ◌≤◌, Bool, true, false, cond, not, eqb, List, [], ◌∷◌, ◌++◌, ℤ, pos, negsuc, ◌+ℤ◌, neg_ℤ, nat_abs, refl, inl, inr, arith}
+use Rattle.std.proofs.Common.{◌≡◌, ℕ, zero, suc, ◌+◌, ◌<◌, ◌≤◌, Bool, true, false, cond, not, eqb, List, [], ◌∷◌, ◌++◌}
+use Rattle.std.proofs.Common.{ℤ, pos, negsuc, ◌+ℤ◌, neg_ℤ, nat_abs, refl, inl, inr, arith}
 use Rattle.std.proofs.lemmas.Int.{ints}
 use Rattle.std.proofs.lemmas.Bool.{ne_eqb, eq-eqb, cases_eq}
 use Rattle.pb.specs.Normal.{share, lowering, term_of, raise_of, gathered, raised}
@@ -16,7 +17,8 @@ cond_plus : (b : Bool) (x y : ℤ) → cond b (x +ℤ y) (pos 0) ≡ cond b x (p
 cond_plus true x y = refl
 cond_plus false x y = refl
 
-pub spread_plus : (k v : ℕ) (f g : ℕ → ℤ) (a : Assignment) → spread k v (λ u. f u +ℤ g u) a ≡ spread k v f a +ℤ spread k v g a
+pub spread_plus : (k v : ℕ) (f g : ℕ → ℤ) (a : Assignment)
+    → spread k v (λ u. f u +ℤ g u) a ≡ spread k v f a +ℤ spread k v g a
 spread_plus zero v f g a = refl
 spread_plus (suc k) v f g a =
     let e = spread_plus k (suc v) f g a in
@@ -53,7 +55,8 @@ spread_first k v w a =
     let e = spread_before k (suc v) v w a (omega arith) in
     rw (single_at v w) (omega (arith, ints))
 
-spread_single : (k v l : ℕ) (w : ℤ) (a : Assignment) → v ≤ l → l < v + k → spread k v (single l w) a ≡ cond (a l) w (pos 0)
+spread_single : (k v l : ℕ) (w : ℤ) (a : Assignment) → v ≤ l → l < v + k
+    → spread k v (single l w) a ≡ cond (a l) w (pos 0)
 spread_single zero v l w a h g = absurd (omega arith)
 spread_single (suc k) v l w a h g = elim (cases_eq l v) [
   | inl p ↦ rw p (spread_first k v w a)
@@ -68,7 +71,8 @@ cond_opposite true w = omega (arith, ints)
 cond_opposite false w = omega (arith, ints)
 
 -- what a literal of one of these variables counts
-pub spread_share : (k v : ℕ) (z w : ℤ) (a : Assignment) → v ≤ nat_abs z → nat_abs z < v + k → spread k v (λ u. share u z w) a +ℤ lowering z w ≡ cond (holds a z) w (pos 0)
+pub spread_share : (k v : ℕ) (z w : ℤ) (a : Assignment) → v ≤ nat_abs z → nat_abs z < v + k
+    → spread k v (λ u. share u z w) a +ℤ lowering z w ≡ cond (holds a z) w (pos 0)
 spread_share k v (pos l) w a h g = let e = spread_single k v l w a h g in omega (arith, ints)
 spread_share k v (negsuc l) w a h g =
     let e = spread_single k v (suc l) (neg_ℤ w) a h g in
@@ -89,13 +93,15 @@ counts_false true p = omega (arith, ints)
 counts_false false p = omega (arith, ints)
 
 -- the term of variable v, of net weight z
-weighed_term : (a : Assignment) (v : ℕ) (z : ℤ) → 0 < v → pos (weighed a (term_of v z)) ≡ cond (a v) z (pos 0) +ℤ pos (raise_of z)
+weighed_term : (a : Assignment) (v : ℕ) (z : ℤ) → 0 < v
+    → pos (weighed a (term_of v z)) ≡ cond (a v) z (pos 0) +ℤ pos (raise_of z)
 weighed_term a zero z h = absurd (omega arith)
 weighed_term a (suc v) (pos zero) h = let d = cond_none (a (suc v)) in omega (arith, ints)
 weighed_term a (suc v) (pos (suc p)) h = counts_true (a (suc v)) p
 weighed_term a (suc v) (negsuc p) h = counts_false (a (suc v)) p
 
-pub weighed_gathered : (k v : ℕ) (f : ℕ → ℤ) (a : Assignment) → 0 < v → pos (weighed a (gathered k v f)) ≡ spread k v f a +ℤ pos (raised k v f)
+pub weighed_gathered : (k v : ℕ) (f : ℕ → ℤ) (a : Assignment) → 0 < v
+    → pos (weighed a (gathered k v f)) ≡ spread k v f a +ℤ pos (raised k v f)
 weighed_gathered zero v f a h = refl
 weighed_gathered (suc k) v f a h =
     let e = weighed_gathered k (suc v) f a (omega arith) in

@@ -1,3 +1,4 @@
+pub mod Variables
 pub mod Lines
 pub mod Checks
 pub mod Normal
@@ -6,5 +7,6 @@ pub mod Sums
 pub mod WorkingForm
 pub mod Tightened
 pub mod Settled
+pub mod Names
 pub mod Laws
 pub mod Worked

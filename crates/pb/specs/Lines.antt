@@ -15,7 +15,7 @@ pub record Line : Type 0 where
   pub bound : ℤ
   pub terms : List Term
 
--- a line as it is entered over terms that lie elsewhere, with them
+-- a line as it is entered over lent terms, with these
 abbrev pub entered_line : Constraint → Line
 entered_line l = record { relation = l.relation; bound = l.bound; terms = l.terms.now }
 
@@ -36,6 +36,6 @@ impossible_line = record { sense = AtLeast; bound = 1; terms = [] }
 abbrev pub line_in : WorkingHead → List WorkingTerm → Working
 line_in h table = record { sense = h.sense; bound = h.bound; terms = take h.count table }
 
--- a working line over terms that lie elsewhere, with them
+-- a working line over lent terms, with these
 abbrev pub working_of : WorkingLine → Working
 working_of l = record { sense = l.sense; bound = l.bound; terms = l.terms.now }

@@ -1,5 +1,6 @@
 -- What an assignment makes of a line: its total, and whether it meets the line.
-use Rattle.std.specs.Prelude.{◌≡◌, ℕ, suc, ◌+◌, Bool, cond, not, ◌&&◌, List, [], ◌∷◌, ℤ, pos, negsuc, ◌+ℤ◌, ◌==◌, int_le, int_lt, nat_le}
+use Rattle.std.specs.Prelude.{ℕ, suc, ◌+◌, Bool, cond, not, ◌&&◌, List, [], ◌∷◌, ℤ, pos, negsuc, ◌+ℤ◌, ◌==◌}
+use Rattle.std.specs.Prelude.{int_le, int_lt, nat_le}
 use Rattle.pb.specs.declared.relation.Relation.{Relation}
 use Rattle.pb.specs.declared.relation.Relation.TheVariants.{AtLeast, AtMost, Exactly, MoreThan, LessThan}
 use Rattle.pb.specs.declared.term.Term.{Term}
@@ -7,8 +8,6 @@ use Rattle.pb.specs.declared.working.Sense.{Sense}
 use Rattle.pb.specs.declared.working.Sense.TheVariants.{AtLeast as LeastOf, Exactly as Just}
 use Rattle.pb.specs.declared.working.WorkingTerm.{WorkingTerm}
 use Rattle.pb.specs.Lines.{Line, Working}
-use Rattle.pb.specs.Checks.{PassesChecks}
-use Rattle.pb.specs.Normal.{normal}
 
 -- an assignment gives each variable true or false
 abbrev pub Assignment : Type 0
@@ -47,7 +46,3 @@ reaches Just t b = t == b
 
 abbrev pub met : Assignment → Working → Bool
 met a w = reaches w.sense (weighed a w.terms) w.bound
-
--- the normal form of a line is met by just the assignments that meet the line
-abbrev pub NormalKeeps : Type 0
-NormalKeeps = (n : ℕ) (l : Line) → PassesChecks n l → (a : Assignment) → met a (normal n l) ≡ meets a l

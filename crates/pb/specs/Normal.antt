@@ -1,6 +1,7 @@
 -- The normal form of a line: "at least" or "exactly", a bound that is not negative, and for each variable at most one
 -- term, of positive weight, by rising variable.
-use Rattle.std.specs.Prelude.{ℕ, zero, suc, ◌+◌, Bool, true, false, cond, List, [], ◌∷◌, ◌++◌, ℤ, pos, negsuc, ◌+ℤ◌, ◌-ℤ◌, neg_ℤ, ◌==◌}
+use Rattle.std.specs.Prelude.{ℕ, zero, suc, ◌+◌, Bool, true, false, cond, List, [], ◌∷◌, ◌++◌, ℤ, pos, negsuc, ◌+ℤ◌}
+use Rattle.std.specs.Prelude.{◌-ℤ◌, neg_ℤ, ◌==◌}
 use Rattle.pb.specs.declared.relation.Relation.{Relation}
 use Rattle.pb.specs.declared.relation.Relation.TheVariants.{AtLeast, AtMost, Exactly, MoreThan, LessThan}
 use Rattle.pb.specs.declared.term.Term.{Term}
@@ -82,4 +83,9 @@ floored Just (negsuc b) ts = impossible_line
 
 -- the normal form of a line of a job of n variables
 abbrev pub normal : ℕ → Line → Working
-normal n l = floored (sense_of l.relation) ((threshold l.relation l.bound -ℤ lowered (negated l.relation) l.terms) +ℤ pos (raised n 1 (net (negated l.relation) l.terms))) (gathered n 1 (net (negated l.relation) l.terms))
+normal n l =
+    let negate = negated l.relation in
+    let nets = net negate l.terms in
+    floored (sense_of l.relation)
+    ((threshold l.relation l.bound -ℤ lowered negate l.terms) +ℤ pos (raised n 1 nets))
+    (gathered n 1 nets)

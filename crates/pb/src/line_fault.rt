@@ -1,16 +1,16 @@
 // What can be wrong with one line.
 
-/// A line's fault. Terms are numbered from 1.
+/// What is wrong with a line. Terms are numbered from 1.
 #[derive(Clone, Copy, PartialEq, Eq, Debug)]
 pub enum LineFault {
-    /// The relation is none of 1 to 5.
+    /// The relation's number is that of none.
     Relation,
-    /// The bound lies outside -1,000,000 to 1,000,000.
+    /// The bound is further from 0 than [`MOST_BOUND`](crate::constraint::MOST_BOUND).
     Bound,
-    /// There are more than 64 terms.
+    /// There are more terms than [`MOST_TERMS`](crate::constraint::MOST_TERMS).
     Terms,
     /// This term's literal is 0, or of no variable of the job.
     Literal(usize),
-    /// This term's weight lies outside -10,000 to 10,000.
+    /// This term's weight is further from 0 than [`MOST_WEIGHT`](crate::term::MOST_WEIGHT).
     Weight(usize),
 }

@@ -1,19 +1,25 @@
-// How a line's total is to stand to its bound.
+// The relations that a line may have, and their numbers.
 ghost use Rattle.std.specs.Prelude.{◌≡◌};
 ghost use Rattle.pb.specs.Checks.{numbered_relation};
 
 use crate::line_fault::LineFault;
 
-#[derive(Clone, Copy, PartialEq, Debug)]
+/// How a line's total is to stand to its bound.
+#[derive(Clone, Copy, PartialEq, Eq, Debug)]
 pub enum Relation {
+    /// The total is the bound or more.
     AtLeast,
+    /// The total is the bound or less.
     AtMost,
+    /// The total is the bound.
     Exactly,
+    /// The total is above the bound.
     MoreThan,
+    /// The total is below the bound.
     LessThan,
 }
 
-// The relation of a number, where it has one.
+/// The relation of a number, or [`LineFault::Relation`] where it is the number of none.
 impl TryFrom<u8> for Relation {
     type Error = LineFault;
 

@@ -2,5 +2,15 @@ mod Rests
 mod Marks
 mod Terms
 mod LineRead
-mod Words
-pub mod RoundTrip
+mod Numbers
+mod Counting
+pub mod Steps
+pub mod ReadingBack
+pub mod WholeFiles
+mod RecordFaults
+mod CausesGiveFault
+mod RecordsSeen
+mod HeadersSeen
+mod LinesSeen
+mod FilesSeen
+pub mod LinesPass

@@ -1,5 +1,6 @@
 pub mod Records
 pub mod Reading
 pub mod Writing
+pub mod Faults
 pub mod Held
 pub mod Place

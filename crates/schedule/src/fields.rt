@@ -5,12 +5,12 @@ ghost use Rattle.schedule.specs.Records.{variables_in, relation_in, terms_in, bo
 use pb::term::Term;
 
 // What a line's first record says: the relation's number, how many terms there are, and the bound.
-#[derive(Clone, Copy)]
-pub struct LineHeader {
+#[derive(Clone, Copy, PartialEq, Eq, Debug)]
+pub(crate) struct LineHeader {
     // the number as the file has it, which `check_head` judges before the bound and the count.
-    pub relation: u8,
-    pub terms: u8,
-    pub bound: i32,
+    pub(crate) relation: u8,
+    pub(crate) terms: u8,
+    pub(crate) bound: i32,
 }
 
 // How many variables the file has.
@@ -22,7 +22,8 @@ pub(crate) fn variables_in(body: [u8; 2]) -> u16
 }
 
 impl From<[u8; 6]> for LineHeader {
-    ghost from_gives = { λ body r. (r.relation ≡ relation_in body) × (r.terms ≡ terms_in body) × (r.bound ≡ bound_in body) };
+    ghost from_gives = { λ body r.
+        (r.relation ≡ relation_in body) × (r.terms ≡ terms_in body) × (r.bound ≡ bound_in body) };
 
     fn from(body: [u8; 6]) -> LineHeader {
         let [relation, terms, a, b, c, d] = body;

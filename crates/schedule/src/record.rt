@@ -3,12 +3,13 @@ ghost use Rattle.std.specs.Prelude.{◌≡◌, length};
 
 use crate::mark::Mark;
 
-#[derive(Clone, Copy)]
+/// A record of a schedule file, which it borrows.
+#[derive(Clone, Copy, PartialEq, Eq, Debug)]
 pub struct Record<'a> {
     pub mark: Mark,
-    // what follows the mark
+    /// What follows the mark.
     pub body: &'a [u8],
-    // where the mark stands in the file
+    /// Where the mark stands in the file, in bytes from the first.
     pub offset: usize,
 }
 

@@ -1,1 +1,3 @@
-pub mod Held
+pub mod MemorySheet
+pub mod Ceiling
+pub mod FinishedText

@@ -7,8 +7,12 @@ use crate::layout::CellLayout;
 use crate::memory::MemorySheet;
 use cnf::clause::FormedClause;
 
+/// Clauses in cells: the literals of each, and a 0 that ends it.
+#[derive(Clone, Copy, PartialEq, Eq, Debug)]
 pub struct FlatLayout;
 
+/// A sheet over a lent table of cells. A list fits where the table has a cell for each literal and one more for each
+/// clause.
 pub type FlatSheet<'a> = MemorySheet<'a, FlatLayout>;
 
 impl CellLayout for FlatLayout {
@@ -20,18 +24,16 @@ impl CellLayout for FlatLayout {
 
     ghost layout = { flat_layout };
 
-    fn put(cells: &mut [i32], at: usize, clause: FormedClause<'_>) -> Option<usize> {
-        let literals = clause.literals();
+    fn size(clause: FormedClause<'_>) -> usize {
         // and the 0 that ends it
-        let size = literals.len() + 1;
-        let end = at.checked_add(size)?;
-        if end > cells.len() {
-            return None;
-        }
+        clause.literals().len() + 1
+    }
+
+    fn put(cells: &mut [i32], at: usize, clause: FormedClause<'_>) {
+        let literals = clause.literals();
         let last = at + literals.len();
         cells[at..last].copy_from_slice(literals);
         cells[last] = Self::END;
-        Some(end)
     }
 
     fn literal_in(part: &[i32], j: usize) -> Option<i32> {

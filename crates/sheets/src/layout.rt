@@ -1,15 +1,20 @@
 // How clauses lie in memory: each as a part of cells, the last of which alone is the mark that ends a part.
-ghost use Rattle.std.specs.Prelude.{◌≡◌, true, is_some, Some};
-ghost use Rattle.cnf.specs.Clauses.{Clause, of_literals, well_formed, literal_of};
+ghost use Rattle.std.specs.Prelude.{◌≡◌, ◌+◌, ◌≤◌, true, length};
+ghost use Rattle.cnf.specs.Clauses.{Clause, well_formed, literal_of};
+ghost use Rattle.cnf.specs.FormedClause.{clause_in};
 ghost use Rattle.cnf.specs.Layouts.{Layout, Faithful};
-ghost use Rattle.sheets.specs.Held.{given_in, put_answer};
+ghost use Rattle.cnf.specs.Tables.{overwritten};
 
 use cnf::clause::FormedClause;
 
+/// How clauses lie in memory.
+// in a private module, so that only a sheet calls these functions: it puts a clause where it fits, and looks for a
+// literal only in a part that a clause was written to.
 pub trait CellLayout {
+    /// An element of the memory.
     type Cell: Copy + Eq;
 
-    // What ends a part.
+    /// What ends a part.
     const END: Self::Cell;
 
     ghost END: { Self.Cell };
@@ -17,12 +22,16 @@ pub trait CellLayout {
     // What is written of a clause, what ends a part, and which clauses the cells in use are read as.
     ghost layout: { Layout Self.Cell };
 
-    // Writes a clause from this cell on, and answers the place after it; one that does not fit there is not begun.
-    fn put(cells: &mut [Self::Cell], at: usize, clause: FormedClause<'_>) -> Option<usize>
-        ensures answer { result ≡ put_answer layout cells.old at (of_literals clause.entry.literals.now) }
-        ensures after { cells.new ≡ given_in layout cells.old at (of_literals clause.entry.literals.now) (is_some result) };
+    /// How many cells a clause takes.
+    fn size(clause: FormedClause<'_>) -> usize
+        ensures { result ≡ length (layout.write (clause_in clause.entry)) };
 
-    // The j-th literal of the clause that a part is written of, counted from 1.
+    /// Writes a clause from this cell on.
+    fn put(cells: &mut [Self::Cell], at: usize, clause: FormedClause<'_>)
+        requires { at + length (layout.write (clause_in clause)) ≤ length cells.old }
+        ensures { cells.new ≡ overwritten at (layout.write (clause_in clause.entry)) cells.old };
+
+    /// The j-th literal of the clause that a part is written of, counted from 1, or nothing where it has fewer.
     fn literal_in(part: &[Self::Cell], j: usize) -> Option<i32>
         ensures { (c : Clause) → part.now ≡ layout.write c → well_formed c ≡ true → result ≡ literal_of (Some c) j };
 

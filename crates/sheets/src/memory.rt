@@ -6,7 +6,9 @@ use std::marker::PhantomData;
 
 mod calls;
 
-// a length stands beside the memory, which is lent, and which the contract pins cell for cell; there is no heap.
+/// A sheet over lent memory, generic in how clauses lie there. A refused call leaves the sheet and all of its memory
+/// as they were, and a call that is not refused writes nothing but the clause given.
+// a length stands beside the memory, since that is lent, and is pinned cell for cell; there is no heap.
 #[derive(Drop)]
 pub struct MemorySheet<'a, L: CellLayout> {
     memory: &'a mut [L::Cell],

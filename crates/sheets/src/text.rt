@@ -6,13 +6,16 @@ ghost use Rattle.cnf.specs.Text.{text_layout};
 use crate::layout::CellLayout;
 use crate::memory::MemorySheet;
 use crate::reading::number_in;
-use crate::writing::{put_bytes, row_size};
+use crate::writing::{put_bytes, put_literal, row_size};
 use cnf::clause::FormedClause;
 use cnf::marks::{Equal, after_mark};
 use itoa::Buffer;
 
+/// Clauses as DIMACS text: a row for each, its literals in decimal with a space after each, and 0 and a line feed.
+#[derive(Clone, Copy, PartialEq, Eq, Debug)]
 pub struct TextLayout;
 
+/// A sheet over lent bytes. A list fits where its rows do.
 pub type TextSheet<'a> = MemorySheet<'a, TextLayout>;
 
 impl CellLayout for TextLayout {
@@ -24,18 +27,18 @@ impl CellLayout for TextLayout {
 
     ghost layout = { text_layout };
 
-    fn put(bytes: &mut [u8], at: usize, clause: FormedClause<'_>) -> Option<usize> {
+    fn size(clause: FormedClause<'_>) -> usize {
+        row_size(clause)
+    }
+
+    fn put(bytes: &mut [u8], at: usize, clause: FormedClause<'_>) {
         let literals = clause.literals();
-        if at.checked_add(row_size(clause))? > bytes.len() {
-            return None;
-        }
         let mut buffer = Buffer::new();
         let mut to = at;
         for literal in literals {
-            let end = put_bytes(bytes, to, buffer.format(*literal).as_bytes());
-            to = put_bytes(bytes, end, b" ");
+            to = put_literal(bytes, to, *literal, &mut buffer);
         }
-        Some(put_bytes(bytes, to, b"0\n"))
+        let _ = put_bytes(bytes, to, b"0\n");
     }
 
     fn literal_in(row: &[u8], j: usize) -> Option<i32> {

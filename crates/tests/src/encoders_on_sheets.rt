@@ -2,6 +2,7 @@
 use crate::exercise::refused;
 use cnf::sheet::Sheet;
 use cnf::sheet_fault::SheetCause;
+use encode::cost::Cost;
 use encode::encode_fault::EncodeFault;
 use encode::encoder::Encoder;
 use encoders::choice::UpTo;
@@ -15,6 +16,10 @@ use sheets::text::TextSheet;
 
 const fn on(weight: u32, literal: i16) -> WorkingTerm {
     WorkingTerm { weight, literal }
+}
+
+const fn cost(auxiliaries: usize) -> Cost {
+    Cost { auxiliaries }
 }
 
 fn line(sense: Sense, bound: u32, terms: &[WorkingTerm]) -> WorkingLine<'_> {
@@ -71,7 +76,9 @@ fn order_counts_in_a_matrix(rt: HostRuntime) {
     );
     assert_eq!(rt;
         finish(sheet).bytes(),
-        b"-1 3 0\n1 -3 0\n-1 4 0\n1 -4 0\n-3 5 0\n-2 5 0\n2 3 -5 0\n-4 6 0\n-2 -3 6 0\n2 4 -6 0\n3 -6 0\n6 0\n-1 7 0\n1 -7 0\n-7 8 0\n-2 8 0\n2 7 -8 0\n-8 0\n0\n".as_slice()
+        b"-1 3 0\n1 -3 0\n-1 4 0\n1 -4 0\n-3 5 0\n-2 5 0\n2 3 -5 0\n-4 6 0\n-2 -3 6 0\n2 4 -6 0\n3 -6 0\n\
+          6 0\n-1 7 0\n1 -7 0\n-7 8 0\n-2 8 0\n2 7 -8 0\n-8 0\n0\n"
+            .as_slice()
     );
 }
 
@@ -79,20 +86,29 @@ fn order_counts_in_a_matrix(rt: HostRuntime) {
 fn reach_ends_where_it_should(rt: HostRuntime) {
     let terms = [on(1, 1); 65];
     assert_eq!(rt;
-        Direct::new().reach(line(AtLeast, 1, &terms[0..12])),
-        Some(0)
-    );
-    assert_eq!(rt; Direct::new().reach(line(AtLeast, 1, &terms[0..13])), None);
-    assert_eq!(rt;
-        Order::new().reach(line(AtLeast, 256, &terms[0..64])),
-        Some(16_384)
+        Direct::new().reach(line(AtLeast, 1, &terms[0..12]), 66),
+        Some(cost(0))
     );
     assert_eq!(rt;
-        Order::new().reach(line(Exactly, 255, &terms[0..64])),
-        Some(16_384)
+        Direct::new().reach(line(AtLeast, 1, &terms[0..13]), 66),
+        None
     );
-    assert_eq!(rt; Order::new().reach(line(Exactly, 256, &terms[0..64])), None);
-    assert_eq!(rt; Order::new().reach(line(AtLeast, 257, &terms[0..64])), None);
+    assert_eq!(rt;
+        Order::new().reach(line(AtLeast, 256, &terms[0..64]), 66),
+        Some(cost(16_384))
+    );
+    assert_eq!(rt;
+        Order::new().reach(line(Exactly, 255, &terms[0..64]), 66),
+        Some(cost(16_384))
+    );
+    assert_eq!(rt;
+        Order::new().reach(line(Exactly, 256, &terms[0..64]), 66),
+        None
+    );
+    assert_eq!(rt;
+        Order::new().reach(line(AtLeast, 257, &terms[0..64]), 66),
+        None
+    );
 }
 
 #[test]
@@ -126,8 +142,11 @@ fn one_of_two_encoders_is_chosen_by_terms(rt: HostRuntime) {
         few: Direct::new(),
         many: Order::new(),
     };
-    assert_eq!(rt; both.reach(line(AtLeast, 1, &terms[0..2])), Some(0));
-    assert_eq!(rt; both.reach(line(AtLeast, 1, &terms)), Some(3));
+    assert_eq!(rt;
+        both.reach(line(AtLeast, 1, &terms[0..2]), 4),
+        Some(cost(0))
+    );
+    assert_eq!(rt; both.reach(line(AtLeast, 1, &terms), 4), Some(cost(3)));
     let mut bytes = [0; 128];
     let mut sheet = TextSheet::new(&mut bytes);
     assert_eq!(rt;

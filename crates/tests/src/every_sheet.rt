@@ -17,7 +17,9 @@ fn a_text_sheet(rt: HostRuntime) {
     let mut bytes = [0; 22];
     let mut sheet = TextSheet::new(&mut bytes);
     exercise(&rt, &mut sheet);
-    assert_eq!(rt; finish(sheet).bytes(), b"1 -2 0\n4 0\n5 -6 0\n".as_slice());
+    let text = finish(sheet);
+    assert_eq!(rt; text.bytes(), b"1 -2 0\n4 0\n5 -6 0\n".as_slice());
+    assert_eq!(rt; text.rest().len(), 4);
 }
 
 #[test]

@@ -8,6 +8,10 @@ mod every_sheet;
 #[cfg(test)]
 mod exercise;
 #[cfg(test)]
+mod lent_memory;
+#[cfg(test)]
 mod normal_forms;
+#[cfg(test)]
+mod unit_clauses;
 #[cfg(test)]
 mod working_lines;

@@ -1,5 +1,5 @@
-use lines::normal::normal_form;
-use pb::constraint::Constraint;
+use lines::checked_line::CheckedLine;
+use pb::constraint::{Constraint, MOST_TERMS};
 use pb::relation::Relation;
 use pb::term::Term;
 use pb::variables::Variables;
@@ -16,7 +16,7 @@ fn formed(
     relation: Relation,
     bound: i32,
     terms: &[Term],
-) -> Result<(WorkingHead, [WorkingTerm; 64]), Fail> {
+) -> Result<(WorkingHead, [WorkingTerm; MOST_TERMS]), Fail> {
     let Some(variables) = Variables::new(2) else {
         return Err(Fail::new("two variables are refused"));
     };
@@ -25,10 +25,13 @@ fn formed(
         bound,
         terms,
     };
-    let mut form = [BLANK; 64];
-    match normal_form(variables, line, &mut form) {
-        Ok(found) => Ok((found, form)),
-        Err(_) => Err(Fail::new("the line is refused")),
+    let Ok(checked) = CheckedLine::new(variables, line) else {
+        return Err(Fail::new("the line is refused"));
+    };
+    let mut form = [BLANK; MOST_TERMS];
+    match checked.normal_form(&mut form) {
+        Some(found) => Ok((found, form)),
+        None => Err(Fail::new("the table is too short")),
     }
 }
 

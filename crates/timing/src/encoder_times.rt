@@ -1,5 +1,5 @@
-// What the encoders' `encode` takes: of the order encoder by the clauses that it gives, of the direct encoder by the masks
-// that it looks at.
+// What the encoders' `encode` takes: of the order encoder by the clauses that it gives, of the direct encoder by the
+// masks that it looks at.
 use crate::watch::{Name, Per, Work, measure};
 use cnf::sheet::Sheet;
 use encode::encoder::Encoder;

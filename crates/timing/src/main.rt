@@ -1,5 +1,5 @@
-// Measures how long the sheets' and the encoders' calls take. What each measure came to goes to standard output, which is the
-// same in every run, and its time to standard error.
+// Measures how long the sheets' and the encoders' calls take. What each measure came to goes to standard output,
+// which is the same in every run, and its time to standard error.
 #![tactic(auto)]
 
 mod encoder_times;

@@ -4,8 +4,8 @@ use std::rt::Clock;
 use std::time::{Duration, Instant};
 use std::{fmt, io};
 
-// The shortest round counts, since whatever else the machine does only makes a round longer. The first one also meets memory
-// that no cache holds yet.
+// The shortest round counts, since whatever else the machine does only makes a round longer. The first one also meets
+// memory that no cache holds yet.
 const ROUNDS: usize = 5;
 
 pub(crate) trait Work {

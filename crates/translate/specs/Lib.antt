@@ -1,3 +1,4 @@
+pub mod Books
 pub mod Translation
 pub mod Streaming
 pub mod Entering

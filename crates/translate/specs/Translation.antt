@@ -1,5 +1,5 @@
--- From the bytes of a schedule file to clauses: the whole file is read first, then each line is written, in order, from
--- its normal form, tightened.
+-- From the bytes of a schedule file to clauses: the whole file is read and entered first, then each line is written,
+-- in order, from its normal form, tightened.
 use Rattle.std.specs.Prelude.{◌≡◌, ℕ, suc, ◌+◌, cond, List, [], ◌∷◌, ◌++◌, length, Ok, Err, Result, nat_le}
 use Rattle.fault.specs.declared.book.BookFault.TheVariants.{Reach, Auxiliary}
 use Rattle.fault.specs.declared.file.FileFault.{FileFault}
@@ -8,27 +8,22 @@ use Rattle.cnf.specs.declared.sheet_fault.SheetFault.{SheetFault}
 use Rattle.fault.specs.Refusals.{book_refusal, sheet_refusal, file_refusal}
 use Rattle.cnf.specs.Calls.{Rule, all_answer}
 use Rattle.cnf.specs.Clauses.{Clause}
+use Rattle.cnf.specs.declared.clause.TheConstants.{LAST_NUMBER}
+use Rattle.encode.specs.declared.reaches.TheConstants.{MOST_DIRECT_TERMS}
 use Rattle.encode.specs.Choice.{up_to}
 use Rattle.encode.specs.Direct.{direct_encoding}
 use Rattle.encode.specs.Law.{Encoding}
 use Rattle.encode.specs.Order.{order_encoding}
-use Rattle.pb.specs.Checks.{PassesChecks}
 use Rattle.pb.specs.Lines.{Line, Working}
-use Rattle.pb.specs.Meaning.{Assignment, meets, met}
-use Rattle.pb.specs.Normal.{normal}
-use Rattle.pb.specs.WorkingForm.{IsNormal}
-use Rattle.pb.specs.Tightened.{tightened}
-use Rattle.schedule.specs.Reading.{then, Schedule, read_schedule}
-use Rattle.schedule.specs.Writing.{Takes, file_of}
+use Rattle.pb.specs.Tightened.{working_form}
+use Rattle.schedule.specs.Reading.{◌>>=◌, Schedule}
+use Rattle.schedule.specs.Writing.{file_of, IsWithinLimits}
+use Rattle.translate.specs.Books.{HasRoom, enter_file}
 use Rattle.translate.specs.declared.header.Header.{Header}
 
--- the working form in which a line of a job of n variables is written
-abbrev pub working_form : ℕ → Line → Working
-working_form n l = tightened (normal n l)
-
--- lines of up to 12 terms go to the direct encoder, and the others to the order encoder
+-- lines of few terms go to the direct encoder, and the others to the order encoder
 abbrev pub encoding : Encoding
-encoding = up_to 12 direct_encoding order_encoding
+encoding = up_to MOST_DIRECT_TERMS direct_encoding order_encoding
 
 -- how far writing has come: the clauses held, and the highest number taken by a variable or an auxiliary
 pub record Progress : Type 0 where
@@ -47,9 +42,10 @@ Giving = Rule → List Clause → List Clause → Result ℕ SheetFault
 -- a line of this number written in its working form, where a sheet answers like this
 abbrev pub write_with : Giving → Encoding → Rule → ℕ → Progress → Working → Result Progress Refusal
 write_with give e fits number p w =
-    cond (e.reach w)
-    (cond (nat_le (p.numbers + e.takes w) 60000)
-    (advanced p (e.takes w) (e.clauses w (suc p.numbers)) (give fits p.held (e.clauses w (suc p.numbers))))
+    cond (e.reach w (suc p.numbers))
+    (cond (nat_le (p.numbers + e.takes w (suc p.numbers)) LAST_NUMBER)
+    (advanced p (e.takes w (suc p.numbers)) (e.clauses w (suc p.numbers))
+    (give fits p.held (e.clauses w (suc p.numbers))))
     (Err (book_refusal (Auxiliary number) 0)))
     (Err (book_refusal (Reach number) 0))
 
@@ -57,10 +53,13 @@ write_with give e fits number p w =
 -- meaning
 abbrev pub lines_with : Giving → Encoding → Rule → ℕ → ℕ → Progress → List Line → Result Progress Refusal
 lines_with give e fits n number p [] = Ok p
-lines_with give e fits n number p (l ∷ ls) = then (write_with give e fits number p (working_form n l)) (λ q. lines_with give e fits n (suc number) q ls)
+lines_with give e fits n number p (l ∷ ls) = do
+  q ← write_with give e fits number p (working_form n l)
+  lines_with give e fits n (suc number) q ls
 
 abbrev pub schedule_with : Giving → Encoding → Rule → List Clause → Schedule → Result Progress Refusal
-schedule_with give e fits cs s = lines_with give e fits s.variables 1 (record { held = cs; numbers = s.variables }) s.lines
+schedule_with give e fits cs s =
+    lines_with give e fits s.variables 1 (record { held = cs; numbers = s.variables }) s.lines
 
 -- clause by clause, as the program gives them
 abbrev pub write_by : Encoding → Rule → ℕ → Progress → Working → Result Progress Refusal
@@ -76,12 +75,11 @@ abbrev pub or_refusal : {X : Type 0} → Result X FileFault → Result X Refusal
 or_refusal (Ok x) = Ok x
 or_refusal (Err e) = Err (file_refusal e)
 
--- the book of a run holds 24 lines and 512 terms
 abbrev pub translation : Encoding → Rule → List Clause → List ℕ → Result Progress Refusal
-translation e fits cs input = then (or_refusal (read_schedule 24 512 input)) (write_schedule e fits cs)
+translation e fits cs input = or_refusal (enter_file input) >>= write_schedule e fits cs
 
--- the file was translated: the sheet that held cs holds ds, and the header has the highest number that the file takes and how
--- many clauses the sheet holds then
+-- the file was translated: the sheet that held cs holds ds, and the header has the highest number that the file takes
+-- and how many clauses the sheet holds then
 pub record Done (e : Encoding) (fits : Rule) (input : List ℕ) (cs ds : List Clause) (h : Header) : Type 0 where
   pub written : translation e fits cs input ≡ Ok (record { held = ds; numbers = h.variables })
   pub clauses : h.clauses ≡ length ds
@@ -93,8 +91,5 @@ pub record Undone (e : Encoding) (fits : Rule) (input : List ℕ) (cs ds : List 
 
 -- the file of a schedule gives the clauses of just that schedule
 abbrev pub OfSchedules : Encoding → Rule → List ℕ → List Clause → Type 0
-OfSchedules e fits input cs = (s : Schedule) → Takes 24 512 s → input ≡ file_of s → translation e fits cs input ≡ write_schedule e fits cs s
-
--- the form that a line is written in is met by just the assignments that meet the line
-abbrev pub FormsKeep : Type 0
-FormsKeep = (n : ℕ) (l : Line) → PassesChecks n l → IsNormal n (working_form n l) × ((a : Assignment) → met a (working_form n l) ≡ meets a l)
+OfSchedules e fits input cs = (s : Schedule) → IsWithinLimits s → HasRoom s → input ≡ file_of s
+    → translation e fits cs input ≡ write_schedule e fits cs s

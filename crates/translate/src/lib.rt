@@ -2,18 +2,22 @@
 #![tactic(auto)]
 
 ghost use Rattle.std.specs.Prelude.{◌≡◌, Err, MatchResult, IfOk};
+ghost use Rattle.encode.specs.declared.reaches.TheConstants.{MOST_DIRECT_TERMS};
 ghost use Rattle.encode.specs.Models.{ModelsExtend};
 ghost use Rattle.cnf.specs.Sheets.{SameSheet};
-ghost use Rattle.schedule.specs.Place.{rest_of};
-ghost use Rattle.translate.specs.Translation.{encoding, translation, Done, Undone, OfSchedules, FormsKeep};
+ghost use Rattle.pb.specs.Laws.{FormsKeep};
+ghost use Rattle.schedule.specs.Place.{offset_of, rest_of};
+ghost use Rattle.translate.specs.Books.{EntersWhatFits};
+ghost use Rattle.translate.specs.Translation.{encoding, translation, Done, Undone, OfSchedules};
 ghost use Rattle.translate.specs.Streaming.{fresh, progress, coming, Added};
 ghost use Rattle.translate.specs.Whole.{WholeLists};
 ghost use Rattle.translate.specs.Solutions.{Meant};
 
 use cnf::sheet::Sheet;
 use encode::encoder::Encoder;
+use encode::reaches::MOST_DIRECT_TERMS;
 use encoders::choice::UpTo;
-use encoders::direct::{Direct, MOST_TERMS};
+use encoders::direct::Direct;
 use encoders::order::Order;
 use fault::refusal::Refusal;
 use header::Header;
@@ -34,7 +38,9 @@ fn write_lines<E: Encoder, S: Sheet>(
     sheet: &mut S,
 ) -> Result<u16, Refusal>
     ensures added { Added S.Sheet sheet.old sheet.new }
-    ensures comes { coming (E.Encoder.meaning encoder.now) (S.Sheet.fits sheet.old) (fresh variables) (S.Sheet.held sheet.old) reader.old.at (rest_of reader.old) ≡ progress result (S.Sheet.held sheet.new) }
+    ensures comes { coming (E.Encoder.meaning encoder.now) (S.Sheet.fits sheet.old) (fresh variables)
+        (S.Sheet.held sheet.old) (offset_of reader.old) (rest_of reader.old)
+        ≡ progress result (S.Sheet.held sheet.new) }
 {
     let mut run = Run::new(variables);
     while let Some(line) = reader.line()? {
@@ -51,8 +57,10 @@ fn write_file<E: Encoder, S: Sheet>(
 ) -> Result<Header, Refusal>
     ensures added { Added S.Sheet sheet.old sheet.new }
     ensures cases { MatchResult result
-        (λ h. Done (E.Encoder.meaning encoder.now) (S.Sheet.fits sheet.old) input.now (S.Sheet.held sheet.old) (S.Sheet.held sheet.new) h)
-        (λ r. translation (E.Encoder.meaning encoder.now) (S.Sheet.fits sheet.old) (S.Sheet.held sheet.old) input.now ≡ Err r) }
+        (λ h. Done (E.Encoder.meaning encoder.now) (S.Sheet.fits sheet.old) input.now (S.Sheet.held sheet.old)
+        (S.Sheet.held sheet.new) h)
+        (λ r. translation (E.Encoder.meaning encoder.now) (S.Sheet.fits sheet.old) (S.Sheet.held sheet.old) input.now
+        ≡ Err r) }
 {
     let mut reader = Reader::new(input);
     let variables = reader.variables()?;
@@ -63,9 +71,10 @@ fn write_file<E: Encoder, S: Sheet>(
     })
 }
 
-// Writes the clauses that an encoder makes of a schedule file after what the sheet holds, and answers what stands before
-// them; or says why not, and leaves the sheet as it was.
-// encoder and sheet as two parameters, here and below, since one is only read and the other written, and no call keeps both.
+// Writes the clauses that an encoder makes of a schedule file after what the sheet holds, and answers what stands
+// before them; or says why not, and leaves the sheet as it was.
+// encoder and sheet as two parameters, here and below, since one is only read and the other written, and no call
+// keeps both.
 #[tactic(auto, using(crate::proofs::Steps::of_a_schedule))]
 pub fn translate_by<E: Encoder, S: Sheet>(
     encoder: &E,
@@ -74,12 +83,17 @@ pub fn translate_by<E: Encoder, S: Sheet>(
 ) -> Result<Header, Refusal>
     ensures stays { SameSheet S.Sheet sheet.old sheet.new }
     ensures cases { MatchResult result
-        (λ h. Done (E.Encoder.meaning encoder.now) (S.Sheet.fits sheet.old) input.now (S.Sheet.held sheet.old) (S.Sheet.held sheet.new) h)
-        (λ r. Undone (E.Encoder.meaning encoder.now) (S.Sheet.fits sheet.old) input.now (S.Sheet.held sheet.old) (S.Sheet.held sheet.new) r) }
-    ensures reads { OfSchedules (E.Encoder.meaning encoder.now) (S.Sheet.fits sheet.old) input.now (S.Sheet.held sheet.old) }
+        (λ h. Done (E.Encoder.meaning encoder.now) (S.Sheet.fits sheet.old) input.now (S.Sheet.held sheet.old)
+        (S.Sheet.held sheet.new) h)
+        (λ r. Undone (E.Encoder.meaning encoder.now) (S.Sheet.fits sheet.old) input.now (S.Sheet.held sheet.old)
+        (S.Sheet.held sheet.new) r) }
+    ensures reads { OfSchedules (E.Encoder.meaning encoder.now) (S.Sheet.fits sheet.old) input.now
+        (S.Sheet.held sheet.old) }
+    ensures enters { EntersWhatFits }
     ensures forms { FormsKeep }
     ensures models { ModelsExtend (E.Encoder.meaning encoder.now) }
-    ensures whole { WholeLists (E.Encoder.meaning encoder.now) (S.Sheet.fits sheet.old) input.now (S.Sheet.held sheet.old) }
+    ensures whole { WholeLists (E.Encoder.meaning encoder.now) (S.Sheet.fits sheet.old) input.now
+        (S.Sheet.held sheet.old) }
     ensures means { IfOk result (λ h. Meant input.now (S.Sheet.held sheet.old) (S.Sheet.held sheet.new) h) }
 {
     let before = sheet.count();
@@ -93,11 +107,11 @@ pub fn translate_by<E: Encoder, S: Sheet>(
 
 // The direct encoder for lines of up to 12 terms, the order encoder for the others.
 pub fn by_terms() -> UpTo<Direct, Order>
-    ensures most { result.most ≡ 12 }
+    ensures most { result.most ≡ MOST_DIRECT_TERMS }
     ensures meaning { ⟦<UpTo<Direct, Order> as Encoder>⟧.meaning result ≡ encoding }
 {
     UpTo {
-        most: MOST_TERMS,
+        most: MOST_DIRECT_TERMS,
         few: Direct::new(),
         many: Order::new(),
     }
@@ -110,6 +124,7 @@ pub fn translate<S: Sheet>(input: &[u8], sheet: &mut S) -> Result<Header, Refusa
         (λ h. Done encoding (S.Sheet.fits sheet.old) input.now (S.Sheet.held sheet.old) (S.Sheet.held sheet.new) h)
         (λ r. Undone encoding (S.Sheet.fits sheet.old) input.now (S.Sheet.held sheet.old) (S.Sheet.held sheet.new) r) }
     ensures reads { OfSchedules encoding (S.Sheet.fits sheet.old) input.now (S.Sheet.held sheet.old) }
+    ensures enters { EntersWhatFits }
     ensures forms { FormsKeep }
     ensures models { ModelsExtend encoding }
     ensures whole { WholeLists encoding (S.Sheet.fits sheet.old) input.now (S.Sheet.held sheet.old) }

@@ -1,10 +1,12 @@
 // A working line put on a sheet by an encoder.
-ghost use Rattle.std.specs.Prelude.{◌≡◌};
+ghost use Rattle.std.specs.Prelude.{◌≡◌, ◌≤◌, IfOk};
+ghost use Rattle.cnf.specs.declared.clause.TheConstants.{LAST_NUMBER};
 ghost use Rattle.fault.specs.Refusals.{book_refusal};
 ghost use Rattle.pb.specs.Lines.{working_of};
 ghost use Rattle.translate.specs.Translation.{write_by};
 ghost use Rattle.translate.specs.Streaming.{progress, Added};
 
+use cnf::clause::LAST_NUMBER;
 use cnf::sheet::Sheet;
 use encode::encode_fault::EncodeFault;
 use encode::encoder::Encoder;
@@ -12,10 +14,6 @@ use fault::book::BookFault;
 use fault::file::AtOffset;
 use fault::refusal::Refusal;
 use pb::working::WorkingLine;
-
-// The highest number that an auxiliary may have.
-// beside the last variable that a clause may name, which has another type.
-const NUMBERS: usize = 60_000;
 
 // The refusal of a call on the book, which is outside any file.
 fn refused(fault: BookFault) -> Refusal
@@ -33,17 +31,22 @@ pub(crate) fn write<E: Encoder, S: Sheet>(
     line: WorkingLine<'_>,
     sheet: &mut S,
 ) -> Result<u16, Refusal>
+    requires { taken ≤ LAST_NUMBER }
     ensures added { Added S.Sheet sheet.old sheet.new }
-    ensures comes { write_by (E.Encoder.meaning encoder.now) (S.Sheet.fits sheet.old) number (record { held = S.Sheet.held sheet.old; numbers = taken }) (working_of line.entry) ≡ progress result (S.Sheet.held sheet.new) }
+    ensures low { IfOk result (λ last. last ≤ LAST_NUMBER) }
+    ensures comes { write_by (E.Encoder.meaning encoder.now) (S.Sheet.fits sheet.old) number
+        (record { held = S.Sheet.held sheet.old; numbers = taken }) (working_of line.entry)
+        ≡ progress result (S.Sheet.held sheet.new) }
 {
-    let takes = encoder
-        .reach(line)
+    let first = taken + 1;
+    let cost = encoder
+        .reach(line, first)
         .ok_or(refused(BookFault::Reach(number)))?;
-    if takes > NUMBERS || usize::from(taken) > NUMBERS - takes {
+    if cost.auxiliaries > usize::from(LAST_NUMBER - taken) {
         return Err(refused(BookFault::Auxiliary(number)));
     }
-    match encoder.encode(line, taken + 1, sheet) {
-        Ok(_) => Ok(taken + takes as u16),
+    match encoder.encode(line, first, sheet) {
+        Ok(_) => Ok(taken + cost.auxiliaries as u16),
         Err(EncodeFault::Sheet(fault)) => Err(Refusal::from(fault)),
         // the encoder has said that the line is in reach
         Err(EncodeFault::Reach) => unreachable!(),

@@ -1,10 +1,10 @@
 // The clauses of a line, given to a sheet mask by mask.
 ghost use Rattle.cnf.specs.Sheets.{GivenEach};
-ghost use Rattle.encode.specs.Direct.{listed, direct_clauses};
-ghost use Rattle.encoders.specs.Masks.{listed_at};
+ghost use Rattle.encode.specs.Direct.{set_clause, set_clauses, direct_clauses};
 
 use crate::direct::sets::ShortTerms;
 use crate::direct::short_line::ShortLine;
+use crate::giving::give_disjunction;
 use cnf::listing::Listing;
 use cnf::sheet::Sheet;
 use cnf::sheet_fault::SheetFault;
@@ -37,7 +37,7 @@ impl Listing for ShortLine<'_> {
 }
 
 // The least sets of terms, where their literals are to reach a bound, or with `flip` their complements are.
-#[derive(Drop)]
+#[derive(Clone, Copy)]
 struct LeastSets<'a> {
     terms: ShortTerms<'a>,
     bound: u64,
@@ -48,17 +48,18 @@ struct LeastSets<'a> {
 impl LeastSets<'_> {
     // Gives the clause of a set, if it is a least one.
     fn give<S: Sheet>(&self, mask: u32, sheet: &mut S) -> Result<(), SheetFault>
-        ensures { GivenEach S.Sheet sheet.old sheet.new result (listed_at self.now.flip self.now.terms.terms.now self.now.bound mask) }
+        ensures { GivenEach S.Sheet sheet.old sheet.new result
+            (set_clause self.now.flip self.now.terms.terms.now self.now.bound mask) }
     {
         if self.terms.is_least(self.bound, mask) {
-            sheet.give(&self.terms.choose(mask, self.flip))?;
+            give_disjunction(&self.terms.literals_in(mask, self.flip), sheet)?;
         }
         Ok(())
     }
 }
 
 impl Listing for LeastSets<'_> {
-    ghost clauses = { λ l. listed l.flip l.terms.terms.now l.bound };
+    ghost clauses = { λ l. set_clauses l.flip l.terms.terms.now l.bound };
 
     fn give_each<S: Sheet>(&self, sheet: &mut S) -> Result<(), SheetFault> {
         for mask in 0..self.terms.sets() {

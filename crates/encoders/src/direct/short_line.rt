@@ -2,6 +2,7 @@
 ghost use Rattle.std.specs.Prelude.{◌≡◌, ◌≤◌, ◌↔◌, length, IsSome, IfSome};
 
 use crate::direct::sets::ShortTerms;
+use encode::reaches::MOST_DIRECT_TERMS;
 use pb::working::{Sense, WorkingLine};
 
 #[derive(Clone, Copy)]
@@ -14,8 +15,9 @@ pub(crate) struct ShortLine<'a> {
 impl<'a> ShortLine<'a> {
     // The line, if its terms are few enough.
     pub(crate) fn new(line: WorkingLine<'a>) -> Option<ShortLine<'a>>
-        ensures within { IsSome result ↔ (length line.entry.terms.now ≤ 12) }
-        ensures same { IfSome result (λ short. (short.sense ≡ line.entry.sense) × ((short.bound ≡ line.entry.bound) × (short.terms.terms.now ≡ line.entry.terms.now))) }
+        ensures within { IsSome result ↔ (length line.entry.terms.now ≤ MOST_DIRECT_TERMS) }
+        ensures same { IfSome result (λ short. (short.sense ≡ line.entry.sense)
+            × ((short.bound ≡ line.entry.bound) × (short.terms.terms.now ≡ line.entry.terms.now))) }
     {
         let terms = ShortTerms::new(line.terms)?;
         Some(ShortLine {

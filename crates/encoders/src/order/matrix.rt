@@ -1,14 +1,17 @@
 // The counter matrix of a line, and its clauses.
 ghost use Rattle.std.specs.Prelude.{◌≡◌, ◌*◌, ◌<◌, ◌≤◌, length};
-ghost use Rattle.encode.specs.Order.{columns as columns_of, counted, cell, row_from, last_clauses, order_list};
-ghost use Rattle.pb.specs.Lines.{working_of};
-ghost use Rattle.encoders.specs.Parts.{meant, IsNegatable};
 ghost use Rattle.cnf.specs.Sheets.{GivenEach};
+ghost use Rattle.encode.specs.declared.reaches.TheConstants.{MOST_ORDER_AUXILIARIES};
+ghost use Rattle.encode.specs.Order.{columns as columns_of, entry, cell_clauses, row_clauses, last_clauses};
+ghost use Rattle.encode.specs.Order.{order_list};
+ghost use Rattle.encode.specs.Parts.{opposite};
+ghost use Rattle.pb.specs.Lines.{working_of};
 
-use crate::part::{Part, give_parts};
+use crate::giving::give_parts;
 use cnf::listing::Listing;
 use cnf::sheet::Sheet;
 use cnf::sheet_fault::SheetFault;
+use encode::part::Part;
 use pb::working::{Sense, WorkingLine, WorkingTerm};
 
 // How many columns the matrix of a line has.
@@ -22,6 +25,13 @@ pub(crate) fn columns(line: WorkingLine<'_>) -> usize
     }
 }
 
+// An entry of a matrix as a part of a clause, and the part that holds just where the entry does not.
+#[derive(Clone, Copy)]
+struct Entry {
+    holds: Part,
+    fails: Part,
+}
+
 // The matrix of a line in reach: a row for each term, and auxiliaries numbered on from `first`, row by row.
 #[derive(Clone, Copy)]
 pub(crate) struct Matrix<'a> {
@@ -29,25 +39,35 @@ pub(crate) struct Matrix<'a> {
     pub(crate) columns: usize,
     pub(crate) first: u16,
     ghost wide: { columns ≡ columns_of line.sense line.bound },
-    ghost few: { length line.terms.now * columns ≤ 16384 },
+    ghost few: { length line.terms.now * columns ≤ MOST_ORDER_AUXILIARIES },
 }
 
 impl Matrix<'_> {
-    // rows and columns as numbers with a condition, since an entry is asked for by its place and none is held.
     // The entry (i, j): its auxiliary, or its value where i or j is 0.
-    fn counted(&self, i: usize, j: usize) -> Part
+    // rows and columns as numbers with a condition, since an entry is asked for by its place and none is held.
+    fn entry(&self, i: usize, j: usize) -> Entry
         requires { (i ≤ length self.now.line.terms.now) × (j ≤ self.now.columns) }
-        ensures value { meant result ≡ counted self.now.first self.now.columns i j }
-        ensures plain { IsNegatable result }
+        ensures holds { result.holds ≡ entry self.now.first self.now.columns i j }
+        ensures fails { result.fails ≡ opposite (entry self.now.first self.now.columns i j) }
     {
         if j == 0 {
-            Part::Always
+            Entry {
+                holds: Part::Always,
+                fails: Part::Never,
+            }
         } else if i == 0 {
-            Part::Never
+            Entry {
+                holds: Part::Never,
+                fails: Part::Always,
+            }
         } else {
-            // below 16,384, as the line is in reach
+            // below the most auxiliaries, as the line is in reach
             let place = (i - 1) * self.columns + (j - 1);
-            Part::Literal((usize::from(self.first) + place) as i32)
+            let auxiliary = (usize::from(self.first) + place) as i32;
+            Entry {
+                holds: Part::Literal(auxiliary),
+                fails: Part::Literal(-auxiliary),
+            }
         }
     }
 
@@ -60,20 +80,18 @@ impl Matrix<'_> {
         sheet: &mut S,
     ) -> Result<(), SheetFault>
         requires { (i < length self.now.line.terms.now) × ((0 < j) × (j ≤ self.now.columns)) }
-        ensures { GivenEach S.Sheet sheet.old sheet.new result (cell self.now.first self.now.columns i j term) }
+        ensures { GivenEach S.Sheet sheet.old sheet.new result
+            (cell_clauses self.now.first self.now.columns i j term) }
     {
-        let here = self.counted(i + 1, j);
-        let above = self.counted(i, j);
+        let here = self.entry(i + 1, j);
+        let above = self.entry(i, j);
         // the total from which the term's weight leads to j
-        let before = self.counted(i, j.saturating_sub(term.weight as usize));
-        let not_here = here.opposite();
-        let not_above = above.opposite();
-        let not_before = before.opposite();
+        let before = self.entry(i, j.saturating_sub(term.weight as usize));
         let literal = i32::from(term.literal);
-        give_parts(&[not_above, here], sheet)?;
-        give_parts(&[Part::Literal(-literal), not_before, here], sheet)?;
-        give_parts(&[Part::Literal(literal), above, not_here], sheet)?;
-        give_parts(&[before, not_here], sheet)
+        give_parts(&[above.fails, here.holds], sheet)?;
+        give_parts(&[Part::Literal(-literal), before.fails, here.holds], sheet)?;
+        give_parts(&[Part::Literal(literal), above.holds, here.fails], sheet)?;
+        give_parts(&[before.holds, here.fails], sheet)
     }
 
     // Gives the clauses of row i + 1, whose term is this one.
@@ -84,7 +102,8 @@ impl Matrix<'_> {
         sheet: &mut S,
     ) -> Result<(), SheetFault>
         requires { i < length self.now.line.terms.now }
-        ensures { GivenEach S.Sheet sheet.old sheet.new result (row_from self.now.first self.now.columns i 1 self.now.columns term) }
+        ensures { GivenEach S.Sheet sheet.old sheet.new result
+            (row_clauses self.now.first self.now.columns i 1 self.now.columns term) }
     {
         for j in 1..=self.columns {
             self.give_cell(i, j, term, sheet)?;
@@ -94,14 +113,16 @@ impl Matrix<'_> {
 
     // Gives the clauses that hold the total, which is in the last row, to the bound.
     fn give_last<S: Sheet>(&self, sheet: &mut S) -> Result<(), SheetFault>
-        ensures { GivenEach S.Sheet sheet.old sheet.new result (last_clauses self.now.line.sense self.now.first self.now.columns (length self.now.line.terms.now) self.now.line.bound) }
+        ensures { GivenEach S.Sheet sheet.old sheet.new result
+            (last_clauses self.now.line.sense self.now.first self.now.columns
+            (length self.now.line.terms.now) self.now.line.bound) }
     {
         let rows = self.line.terms.len();
         let bound = self.line.bound as usize;
-        give_parts(&[self.counted(rows, bound)], sheet)?;
+        give_parts(&[self.entry(rows, bound).holds], sheet)?;
         match self.line.sense {
             Sense::AtLeast => Ok(()),
-            Sense::Exactly => give_parts(&[self.counted(rows, bound + 1).opposite()], sheet),
+            Sense::Exactly => give_parts(&[self.entry(rows, bound + 1).fails], sheet),
         }
     }
 }

@@ -9,12 +9,18 @@ returns-in_err-numbers-clause-cases g c =
     let r = err_from_is_err_and c.from_residual-in_err-numbers.result c.from_residual-in_err-numbers.ensures.1 in
     let s = c.args.sheet.now in
     let read = c.in_ok-variables.ensures.cases in
-    let all = comes_to_all (g.E.Encoder.meaning c.args.encoder.now) (g.S.Sheet.fits s) c.in_ok-variables.variables (g.S.Sheet.held s) c.args.input.now c.new-reader.result c.variables.new.self c.new-reader.ensures.input c.new-reader.ensures.start read.1 read.0 in
+    let made = c.new-reader.ensures in
+    let all = comes_to_all (g.E.Encoder.meaning c.args.encoder.now) (g.S.Sheet.fits s) c.in_ok-variables.variables
+    (g.S.Sheet.held s) c.args.input.now c.new-reader.result c.variables.new.self made.input made.start
+    read.1 read.0 in
     rw (r.1, r.2) (all ∙ c.in_err-numbers.ensures.comes)
 
 pub returns-clause-cases : goal.returns-clause-cases
 returns-clause-cases g c =
     let s = c.args.sheet.now in
     let read = c.in_ok-variables.ensures.cases in
-    let all = comes_to_all (g.E.Encoder.meaning c.args.encoder.now) (g.S.Sheet.fits s) c.in_ok-variables.variables (g.S.Sheet.held s) c.args.input.now c.new-reader.result c.variables.new.self c.new-reader.ensures.input c.new-reader.ensures.start read.1 read.0 in
+    let made = c.new-reader.ensures in
+    let all = comes_to_all (g.E.Encoder.meaning c.args.encoder.now) (g.S.Sheet.fits s) c.in_ok-variables.variables
+    (g.S.Sheet.held s) c.args.input.now c.new-reader.result c.variables.new.self made.input made.start
+    read.1 read.0 in
     record { written = all ∙ c.in_ok-numbers.ensures.comes; clauses = c.count.ensures }

@@ -5,4 +5,5 @@ use Rattle.cnf.proofs.marks.after_mark.Given as goal
 
 abbrev pub invariant-loop-i : goal.invariant-loop-i
 invariant-loop-i g l =
-    l.i + place_after_mark (g.E.Mark.ends l.mark) l.left (drop l.i l.all) ≡ place_after_mark (g.E.Mark.ends l.mark) l.initial.left l.all
+    l.i + place_after_mark (g.E.Mark.ends l.mark) l.left (drop l.i l.all)
+    ≡ place_after_mark (g.E.Mark.ends l.mark) l.initial.left l.all

@@ -4,7 +4,7 @@ use Rattle.std.proofs.lemmas.Int.{to_z-of_z}
 use Rattle.std.proofs.lemmas.Bool.Decides.{nat_tests}
 use Rattle.pb.specs.declared.term.Term.{Term}
 use Rattle.pb.specs.Checks.{literal_named, weight_small}
-use Rattle.lines.proofs.Faults.{fault_further_on}
+use Rattle.lines.proofs.FirstFault.{fault_further_on}
 use Rattle.lines.proofs.check.check_terms.Goals as goal
 
 pub loop-i-preserved : goal.loop-i-preserved
@@ -12,7 +12,8 @@ loop-i-preserved c =
     let ts = c.args.terms.now in
     let t : Term = get_or ts c.loop-i.i (record { weight = pos 0; literal = pos 0 }) in
     let f : SFits w16 t.literal = search rules in
-    let v : c.unsigned_abs-variable.result ≡ nat_abs t.literal = simp to_z-of_z at c.unsigned_abs-variable.ensures.value in
+    let v : c.unsigned_abs-variable.result ≡ nat_abs t.literal =
+    simp to_z-of_z at c.unsigned_abs-variable.ensures.value in
     let named : literal_named c.count-most.result t.literal ≡ true = grind (arith, nat_tests) in
     let g : SFits w32 t.weight = search rules in
     let w : c.unsigned_abs.result ≡ nat_abs t.weight = simp to_z-of_z at c.unsigned_abs.ensures.value in

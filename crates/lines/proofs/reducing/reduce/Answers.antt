@@ -1,5 +1,5 @@
 -- That the line stays in normal form is a law of the definition.
-use Rattle.pb.proofs.Settling.{reduced_is_normal}
+use Rattle.pb.proofs.Reducing.{reduced_is_normal}
 use Rattle.lines.proofs.reducing.reduce.Goals as goal
 
 pub returns-in_default-clause-is_normal : goal.returns-in_default-clause-is_normal

@@ -1,13 +1,15 @@
 -- The text of a number is text, and parses back.
-use Rattle.std.proofs.Common.{◌≡◌, ◌≤◌, ℤ, pos, negsuc, nat_abs, IsUtf8, ℕ, refl, Some, None, Ok, Err, Result, ap, ◌∙◌, arith, w32, SFits}
+use Rattle.std.proofs.Common.{◌≡◌, ◌≤◌, ℤ, pos, negsuc, nat_abs, IsUtf8, ℕ, refl, Some, None, Ok, Err, Result, ap, ◌∙◌}
+use Rattle.std.proofs.Common.{arith, w32, SFits}
 use lib.Signed.{mag}
 use Rattle.std.proofs.lemmas.Fmt.{parse-signed_decimal, IsAscii-signed}
 use Rattle.std.proofs.lemmas.Str.{IsUtf8-from_ascii}
 use Rattle.std.specs.Result.{result_ok}
 use Rattle.std.specs.Fmt.{signed_decimal}
+use Rattle.cnf.specs.declared.clause.TheConstants.{LAST_NUMBER}
 use Rattle.sheets.proofs.reading.number_in.Goals as goal
 
-small_size : (l : ℤ) → nat_abs l ≤ 60000 → mag l ≤ 60000
+small_size : (l : ℤ) → nat_abs l ≤ LAST_NUMBER → mag l ≤ LAST_NUMBER
 small_size (pos n) h = h
 small_size (negsuc n) h = omega arith
 
@@ -33,4 +35,6 @@ returns c l e small =
     let f : SFits w32 l = record { sfits = omega arith } in
     let is = kept c.from_utf8.result c.in_ok-ok.field-0 c.in_ok-ok.ensures.value in
     let text : c.in_ok-ok.field-0.now ≡ signed_decimal l = (rw is at c.from_utf8.ensures.cases).0 ∙ e in
-    c.ok-2.ensures.value ∙ ap result_ok (parse-signed_decimal w32 l c.in_ok-ok.field-0.now c.parse.result f (omega arith) text c.parse.ensures.value.0)
+    c.ok-2.ensures.value
+    ∙ ap result_ok
+    (parse-signed_decimal w32 l c.in_ok-ok.field-0.now c.parse.result f (omega arith) text c.parse.ensures.value.0)

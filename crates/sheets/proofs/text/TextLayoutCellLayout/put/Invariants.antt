@@ -6,4 +6,6 @@ use Rattle.sheets.proofs.text.TextLayoutCellLayout.put.Given as goal
 
 abbrev pub invariant-loop-literal : goal.invariant-loop-literal
 invariant-loop-literal l =
-    (overwritten l.to (row_of (drop l.literal-index l.literals)) l.bytes ≡ overwritten l.initial.to (row_of l.literals) l.initial.bytes) × (l.to + length (row_of (drop l.literal-index l.literals)) ≡ l.initial.to + length (row_of l.literals))
+    (overwritten l.to (row_of (drop l.literal-index l.literals)) l.bytes
+    ≡ overwritten l.initial.to (row_of l.literals) l.initial.bytes)
+    × (l.to + length (row_of (drop l.literal-index l.literals)) ≡ l.initial.to + length (row_of l.literals))

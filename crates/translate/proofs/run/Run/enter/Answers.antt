@@ -9,5 +9,9 @@ pub map_err-requires : goal.map_err-requires
 map_err-requires c = λ e is.
     let h = c.args.line.now in
     let n = c.args.self.now.variables.count in
-    let refused = rw is at c.normal_form.ensures in
-    omega (arith, fault_within h.offset n (line_of h) e (ap (line_check n) (sym c.constraint.ensures) ∙ refused.fault_is), c.requires)
+    let refused = rw is at c.new.ensures.cases in
+    omega (
+      arith,
+      fault_within h.offset n (line_of h) e (ap (line_check n) (sym c.constraint.ensures) ∙ refused),
+      c.requires,
+    )

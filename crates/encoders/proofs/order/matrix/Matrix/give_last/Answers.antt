@@ -8,5 +8,11 @@ pub returns-in-Exactly : goal.returns-in-Exactly
 returns-in-Exactly g c =
     let m = c.args.self.now in
     let n = length m.line.terms.now in
-    let two = exactly_of_parts m.first m.columns n m.line.bound m.line.sense c.counted.result c.counted-in-Exactly.result c.opposite.result c.in-Exactly.is c.counted.ensures.value c.counted-in-Exactly.ensures.value c.opposite.ensures in
-    partly_last _ (partly_on _ (partly_same two (partly_start c.args.sheet.now _)) c.in_ok-give_parts.ensures) c.give_parts-in-Exactly.ensures
+    let two =
+    exactly_of_parts m.first m.columns n m.line.bound m.line.sense c.entry.result c.entry-in-Exactly.result
+    c.in-Exactly.is
+    (c.entry.ensures.holds, c.entry.ensures.fails)
+    (c.entry-in-Exactly.ensures.holds, c.entry-in-Exactly.ensures.fails)
+    in
+    let second = partly_on _ (partly_same two (partly_start c.args.sheet.now _)) c.in_ok-give_parts.ensures in
+    partly_last _ second c.give_parts-in-Exactly.ensures

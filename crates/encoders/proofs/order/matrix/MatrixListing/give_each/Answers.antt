@@ -6,11 +6,14 @@ use Rattle.encoders.proofs.order.matrix.MatrixListing.give_each.Goals as goal
 pub returns-in_err-give_row : goal.returns-in_err-give_row
 returns-in_err-give_row g c =
     let m = c.args.self.now in
-    let left = partly_same (rows_more m.first m.columns c.loop-i.i m.line.terms.now _ _ c.loop-i-test.true) c.loop-i.invariant in
-    let p = partly_exits {r = c.from_residual.result} _ _ _ left c.in_err-give_row.ensures c.from_residual.ensures.1 in
+    let more = rows_more m.first m.columns c.loop-i.i m.line.terms.now _ _ c.loop-i-test.true in
+    let left = partly_same more c.loop-i.invariant in
+    let result = c.from_residual.result in
+    let p = partly_exits {r = result} _ _ _ left c.in_err-give_row.ensures c.from_residual.ensures.1 in
     record { rule = p.rule; same = p.same; answer = p.answer; after = p.after }
 
 pub loop-i-preserved : goal.loop-i-preserved
 loop-i-preserved g c =
     let m = c.args.self.now in
-    partly_on _ (partly_same (rows_more m.first m.columns c.loop-i.i m.line.terms.now _ _ c.loop-i-test.true) c.loop-i.invariant) c.in_ok-give_row.ensures
+    let more = rows_more m.first m.columns c.loop-i.i m.line.terms.now _ _ c.loop-i-test.true in
+    partly_on _ (partly_same more c.loop-i.invariant) c.in_ok-give_row.ensures
