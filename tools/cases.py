@@ -281,7 +281,8 @@ def forms():
         yield f"{k} terms, any one", ch(64) + ln(1, 1, [(1, v) for v in range(1, k + 1)]) + EN
         yield f"{k} terms, then a fault of the file", ch(64) + ln(1, 1, [(1, v) for v in range(1, k + 1)]) + b"XX"
     yield "13 terms of which one cancels", ch(64) + ln(1, 2, [(1, v) for v in range(1, 14)] + [(1, -13)]) + EN
-    yield "the second of two lines has 13 terms", ch(64) + ln(1, 1, [(1, 1)]) + ln(1, 1, [(1, v) for v in range(1, 14)]) + EN
+    long = ln(1, 1, [(1, v) for v in range(1, 14)])
+    yield "the second of two lines has 13 terms", ch(64) + ln(1, 1, [(1, 1)]) + long + EN
 
 
 def matrices():
@@ -297,7 +298,8 @@ def matrices():
     yield "13 terms exactly 0", ch(13) + ln(3, 0, thirteen) + EN
     yield "13 heavy terms, one column", ch(13) + ln(1, 1, heavy) + EN
     yield "two lines of 13 terms number on", ch(13) + ln(1, 3, thirteen) + ln(3, 2, thirteen) + EN
-    yield "a line without auxiliaries between two with", ch(13) + ln(1, 3, thirteen) + ln(1, 1, [(1, 1)]) + ln(1, 2, thirteen) + EN
+    between = ln(1, 3, thirteen) + ln(1, 1, [(1, 1)]) + ln(1, 2, thirteen)
+    yield "a line without auxiliaries between two with", ch(13) + between + EN
     odd = [(3, v) for v in range(1, 64)] + [(1, 64)]
     for b in (128, 130, 131, 191):
         yield f"64 terms of 3 but one, at least {b}", ch(64) + ln(1, b, odd) + EN
@@ -305,7 +307,8 @@ def matrices():
     for r, b in ((1, 256), (1, 257), (3, 254), (3, 255), (3, 256)):
         yield f"64 terms in or out of reach, relation {r}, bound {b}", ch(64) + ln(r, b, wide) + EN
     yield "a fault of the file after a line out of reach", ch(64) + ln(1, 257, wide) + b"XX"
-    yield "a line in reach whose clauses do not fit, after one that does", ch(64) + ln(1, 2, thirteen) + ln(1, 256, wide) + EN
+    unfit = ln(1, 2, thirteen) + ln(1, 256, wide)
+    yield "a line in reach whose clauses do not fit, after one that does", ch(64) + unfit + EN
     yield "at least 3 of 64", ch(64) + ln(1, 3, ones) + EN
 
 
@@ -323,7 +326,8 @@ def limits():
     six = ln(1, 6, [(1, v) for v in range(1, 12)])
     for k in (1, 2, 3):
         yield f"{k} lines of 462 clauses of six", ch(11) + six * k + EN
-    yield "an exact line whose second half does not fit", ch(12) + six + ln(3, 6, [(1, v) for v in range(1, 12)]) * 2 + EN
+    exact = ln(3, 6, [(1, v) for v in range(1, 12)])
+    yield "an exact line whose second half does not fit", ch(12) + six + exact * 2 + EN
     wide = ln(1, 7, [(1, -v) for v in range(244, 256)])
     yield "more text in one line than there is room", ch(256) + wide + EN
 
@@ -336,7 +340,8 @@ def exact_room():
     """A text that fills its memory to the last byte, and the same with one byte more in the last row."""
     units = {4: 9, 5: 99, 6: 100, 7: -100}
     sixes = ln(1, 7, [(1, v) for v in range(100, 112)])
-    smaller = sorted(((printed(l), l) for n in range(1, 11) for l in [ln(1, n // 2 + 1, [(1, v) for v in range(10, 10 + n)])]), reverse=True)
+    few = (ln(1, n // 2 + 1, [(1, v) for v in range(10, 10 + n)]) for n in range(1, 11))
+    smaller = sorted(((printed(l), l) for l in few), reverse=True)
     data, left = ch(256) + sixes, TEXT - printed(sixes)
     while left > 6:
         size, line = next((size, line) for size, line in smaller if left - size >= 4)
@@ -362,7 +367,8 @@ def two_faults():
     yield "a wrong mark where the record is cut short too", ch(1) + b"TM"
     yield "one byte where a mark is due", ch(1) + b"X"
     yield "a second CH", ch(1) + ch(1) + EN
-    yield "13 terms in line 1, a bad relation in line 2", ch(13) + ln(1, 1, [(1, v) for v in range(1, 14)]) + ln(0, 0) + EN
+    long = ln(1, 1, [(1, v) for v in range(1, 14)])
+    yield "13 terms in line 1, a bad relation in line 2", ch(13) + long + ln(0, 0) + EN
     yield "13 terms in line 1, bytes after the end", ch(13) + ln(1, 1, [(1, v) for v in range(1, 14)]) + EN + b"!"
 
 
@@ -405,7 +411,8 @@ def random_matrices():
 
 
 def cases():
-    for group in (cut_and_marks, ranges, forms, matrices, limits, exact_room, two_faults, random_cases, random_matrices):
+    ends = (limits, exact_room, two_faults)
+    for group in (cut_and_marks, ranges, forms, matrices, *ends, random_cases, random_matrices):
         yield from group()
 
 
@@ -419,7 +426,7 @@ def ones(n):
 
 
 def worked_lines():
-    """(encoder, exact, bound, first auxiliary, terms): the worked lines of the encoders' tables, and some beside them."""
+    """(encoder, exact, bound, first auxiliary, terms): the worked lines of the encoders' tables, and more."""
     small = [(1, 1), (2, 2)]
     yield "direct", False, 4, 4, [(1, 1), (2, 2), (3, 3)]
     yield "direct", True, 1, 3, small

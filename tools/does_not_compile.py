@@ -1,10 +1,10 @@
 #!/usr/bin/env python3
 """Tries the edits crates/NAME/does-not-compile/*.edit: python3 tools/does_not_compile.py, at the top.
 
-Such an edit is a misuse that no program can contain: with it the program must not compile. It has the lines of a must-fail
-edit ('file:', and pairs of 'old:' and 'new:'), a line 'try:' with the program that stands on the file, and a line 'says:' with
-the words that the compiler must say. The gate runs this first, since `rt ci` tries only edits that compile. Nothing is
-proved here. Exit status 0: the program compiles and runs without edits, and each edit was refused in its words.
+Such an edit is a misuse that no program can contain: with it the program must not compile. It has the lines of a
+must-fail edit ('file:', and pairs of 'old:' and 'new:'), a line 'try:' with the program that stands on the file, and a
+line 'says:' with the words that the compiler must say. The gate runs this first, since `rt ci` tries only edits that
+compile. Nothing is proved here. Exit status 0: the program compiles and runs without edits, and each edit was refused in its words.
 """
 import glob
 import os

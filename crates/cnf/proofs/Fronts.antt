@@ -13,18 +13,18 @@ use Rattle.cnf.proofs.Showing.{shows_few, read_more, shows_more, room_more, read
 use Rattle.cnf.proofs.Marking.{after_within, after_more}
 use Rattle.cnf.proofs.Overwriting.{overwritten_front, overwritten_length}
 
-module _ {X : Type 0} (layout : Layout X) (lay : Faithful layout) {all : List X} {used count : ℕ}
+module _ {X : Type 0} (layout : Layout X) (faithful : Faithful layout) {all : List X} {used count : ℕ}
     (f : Front layout all used count) where
   front_size : length (take used all) ≡ used
   front_size = length-take-le used all f.inside
 
   pub few : count ≤ length all
-  few = omega (arith, shows_few layout lay f.shows, front_size)
+  few = omega (arith, shows_few layout faithful f.shows, front_size)
 
   -- whether there is room for one clause more
   pub has_more : (c : Clause) → used + length (layout.write c) ≤ length all
       → has_room layout (length all) (layout.read (take used all) ++ c ∷ []) ≡ true
-  has_more c h = room_more layout lay f.shows (length all) c (omega (arith, front_size))
+  has_more c h = room_more layout faithful f.shows (length all) c (omega (arith, front_size))
 
   -- a clause was written behind the front
   module _ (c : Clause) {after : List X} (end : ℕ) (formed : well_formed c ≡ true)
@@ -36,10 +36,10 @@ module _ {X : Type 0} (layout : Layout X) (lay : Faithful layout) {all : List X}
     pub put_shows : Shows layout (take end after) (count + 1)
     put_shows =
         subst (λ xs. Shows layout xs (count + 1)) (sym put_front)
-        (shows_more layout lay f.shows c (count + 1) formed refl)
+        (shows_more layout faithful f.shows c (count + 1) formed refl)
 
     pub put_reads : layout.read (take end after) ≡ layout.read (take used all) ++ c ∷ []
-    put_reads = ap layout.read put_front ∙ read_more layout lay f.shows c formed
+    put_reads = ap layout.read put_front ∙ read_more layout faithful f.shows c formed
 
     pub put_keeps : Front layout after end (count + 1)
     put_keeps =
@@ -57,10 +57,10 @@ module _ {X : Type 0} (layout : Layout X) (lay : Faithful layout) {all : List X}
     cut_front = sym (take-take end used all cut_within) ∙ ap (λ n. take n (take used all)) ends
 
     pub cut_shows : keep ≤ count → Shows layout (take end all) keep
-    cut_shows h = subst (λ xs. Shows layout xs keep) (sym cut_front) (shows_first layout lay f.shows keep h)
+    cut_shows h = subst (λ xs. Shows layout xs keep) (sym cut_front) (shows_first layout faithful f.shows keep h)
 
     pub cut_reads : layout.read (take end all) ≡ take keep (layout.read (take used all))
-    cut_reads = ap layout.read cut_front ∙ read_first layout lay f.shows keep
+    cut_reads = ap layout.read cut_front ∙ read_first layout faithful f.shows keep
 
     pub cut_keeps : keep ≤ count → Front layout all end keep
     cut_keeps h = record { inside = omega (arith, cut_within, f.inside); shows = cut_shows h }
@@ -75,7 +75,7 @@ module _ {X : Type 0} (layout : Layout X) (lay : Faithful layout) {all : List X}
         ∙ sym (between_is (take used all) from to)
         ∙ ap (λ n. between n to (take used all)) starts
         ∙ ap (λ n. between (place_after_mark layout.mark k (take used all)) n (take used all)) ends
-        ∙ part_of layout lay f.shows k d there
+        ∙ part_of layout faithful f.shows k d there
 
     pub part_inside : (from ≤ to) × (to ≤ length all)
     part_inside = (

@@ -5,7 +5,7 @@ use Rattle.cnf.specs.declared.sheet_fault.SheetFault.{SheetFault}
 use Rattle.cnf.specs.declared.sheet.Sheet.{Ghosts}
 use Rattle.cnf.specs.Calls.{refusal_of, all_answer, all_held, each_held}
 use Rattle.cnf.specs.Clauses.{Clause}
-use Rattle.cnf.specs.Sheets.{SameSheet, Grown, TakenBack, GivenAll}
+use Rattle.cnf.specs.Sheets.{SameSheet, AllGiven, TakenBack, GivenAll}
 use Rattle.cnf.proofs.GivingEach.{cut_back, each_longer, all_taken, all_refused, all_whole, all_whole_held}
 
 module _ {S : Type 0} {sheet : Ghosts S} (s t : S) (cs : List Clause) (stays : SameSheet sheet s t) where
@@ -25,7 +25,7 @@ module _ {S : Type 0} {sheet : Ghosts S} (s t : S) (cs : List Clause) (stays : S
       }
 
   pub given_all : (r : Result ℕ SheetFault)
-      → MatchResult r (λ more. Grown sheet s t more cs) (λ fault. TakenBack sheet s t fault cs)
+      → MatchResult r (λ more. AllGiven sheet s t more cs) (λ fault. TakenBack sheet s t fault cs)
       → GivenAll sheet s t r cs
   given_all (Ok more) grown =
       let held = each_held (sheet.fits s) (sheet.held s) cs in

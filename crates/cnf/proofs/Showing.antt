@@ -31,17 +31,17 @@ module _ {X : Type 0} (layout : Layout X) where
       → has_room layout (length all) (layout.read (take used all)) ≡ true
   front_room all used shown = le-leb _ _ (omega (arith, ap length shown, length-take used all))
 
-  module _ (lay : Faithful layout) where
+  module _ (faithful : Faithful layout) where
     parts : (cs : List Clause) → all_well_formed cs ≡ true
         → AllByRecursion (λ c. IsPart layout.mark (layout.write c)) cs
     parts [] h = tt
-    parts (c ∷ cs) h = let p = and_parts _ _ h in (lay.part c p.0, parts cs p.1)
+    parts (c ∷ cs) h = let p = and_parts _ _ h in (faithful.part c p.0, parts cs p.1)
 
     -- what is written of well-formed clauses shows them
     shows_written : (cs : List Clause) (count : ℕ) → all_well_formed cs ≡ true → length cs ≡ count
         → Shows layout (written layout cs) count
     shows_written cs count formed n =
-        let back = lay.back cs formed in
+        let back = faithful.back cs formed in
         record {
           formed = ap all_well_formed back ∙ formed;
           shown = ap (written layout) back;
@@ -70,7 +70,8 @@ module _ {X : Type 0} (layout : Layout X) where
 
       pub read_more : (c : Clause) → well_formed c ≡ true
           → layout.read (front ++ layout.write c) ≡ layout.read front ++ c ∷ []
-      read_more c h = ap layout.read (sym (more_written c)) ∙ lay.back (layout.read front ++ c ∷ []) (more_formed c h)
+      read_more c h = ap layout.read (sym (more_written c))
+          ∙ faithful.back (layout.read front ++ c ∷ []) (more_formed c h)
 
       pub shows_more : (c : Clause) (n : ℕ) → well_formed c ≡ true → n ≡ count + 1
           → Shows layout (front ++ layout.write c) n
@@ -106,7 +107,7 @@ module _ {X : Type 0} (layout : Layout X) where
 
       pub read_first : (k : ℕ)
           → layout.read (take (place_after_mark layout.mark k front) front) ≡ take k (layout.read front)
-      read_first k = ap layout.read (first_written k) ∙ lay.back _ (formed_take k _ s.formed)
+      read_first k = ap layout.read (first_written k) ∙ faithful.back _ (formed_take k _ s.formed)
 
       pub shows_first : (k : ℕ) → k ≤ count → Shows layout (take (place_after_mark layout.mark k front) front) k
       shows_first k h =

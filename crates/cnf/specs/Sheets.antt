@@ -20,7 +20,7 @@ pub record GivenEach {S : Type 0} (sheet : Ghosts S) (s t : S) (r : Result (Unit
   pub after : sheet.held t ≡ each_held (sheet.fits s) (sheet.held s) cs
 
 -- all were given, and there are so many more
-pub record Grown {S : Type 0} (sheet : Ghosts S) (s t : S) (more : ℕ) (cs : List Clause) : Type 0 where
+pub record AllGiven {S : Type 0} (sheet : Ghosts S) (s t : S) (more : ℕ) (cs : List Clause) : Type 0 where
   pub answer : each_answer (sheet.fits s) (sheet.held s) cs ≡ Ok tt
   pub after : sheet.held t ≡ each_held (sheet.fits s) (sheet.held s) cs
   pub counted : more ≡ length (sheet.held t) - length (sheet.held s)

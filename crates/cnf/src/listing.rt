@@ -2,7 +2,7 @@
 ghost use Rattle.std.specs.Prelude.{List, map, MatchResult};
 ghost use Rattle.cnf.specs.Clauses.{Clause, of_literals};
 ghost use Rattle.cnf.specs.Laws.{Satisfaction};
-ghost use Rattle.cnf.specs.Sheets.{SameSheet, GivenEach, Grown, TakenBack, GivenAll};
+ghost use Rattle.cnf.specs.Sheets.{SameSheet, GivenEach, AllGiven, TakenBack, GivenAll};
 
 use crate::sheet::Sheet;
 use crate::sheet_fault::SheetFault;
@@ -36,7 +36,7 @@ impl<'a, 'b> Listing for Clauses<'a, 'b> {
 fn give_or_take_back<L: Listing, S: Sheet>(list: &L, sheet: &mut S) -> Result<usize, SheetFault>
     ensures stays { SameSheet S.Sheet sheet.old sheet.new }
     ensures cases { MatchResult result
-        (λ more. Grown S.Sheet sheet.old sheet.new more (L.Listing.clauses list.now))
+        (λ more. AllGiven S.Sheet sheet.old sheet.new more (L.Listing.clauses list.now))
         (λ fault. TakenBack S.Sheet sheet.old sheet.new fault (L.Listing.clauses list.now)) }
 {
     let before = sheet.count();

@@ -24,7 +24,9 @@ pub enum FileFault {
 /// A fault with the offset of the record that it was met at.
 #[derive(Clone, Copy, PartialEq, Eq, Debug)]
 pub struct AtOffset<E> {
+    /// Where the record stands in the file, in bytes from the first.
     pub offset: usize,
+    /// What is wrong there.
     pub fault: E,
 }
 

@@ -46,7 +46,9 @@ impl From<SheetFault> for JobFault {
 /// An encoder's refusal with the number of the line that was to be written, which the encoder does not know.
 #[derive(Clone, Copy, PartialEq, Eq, Debug)]
 pub struct WriteFault {
+    /// The number of the line.
     pub line: usize,
+    /// What the encoder or the sheet refused.
     pub fault: EncodeFault,
 }
 

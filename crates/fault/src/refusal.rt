@@ -23,6 +23,7 @@ pub struct Refusal {
     // a number, since it is printed as one; it is made once from the enums and nothing switches on it
     /// 1 to 19, by the cause.
     pub number: u8,
+    /// Who refuses.
     pub layer: Layer,
     /// A term, a line, a count of clauses or an offset: the table in docs/refusals.md says which.
     pub place: usize,

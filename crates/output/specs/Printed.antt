@@ -5,18 +5,19 @@ use Rattle.cnf.specs.Calls.{Rule, limited_to}
 use Rattle.cnf.specs.Clauses.{Clause}
 use Rattle.cnf.specs.Layouts.{has_room}
 use Rattle.cnf.specs.Text.{text_layout, text_of, read_text}
-use Rattle.output.specs.declared.TheConstants.{INPUT, CLAUSES}
+use Rattle.output.specs.declared.TheConstants.{MOST_INPUT, MOST_CLAUSES}
 use Rattle.translate.specs.declared.header.Header.{Header}
 use Rattle.translate.specs.Solutions.{Meant}
 use Rattle.translate.specs.Translation.{Progress, encoding, translation}
 
 -- a sheet that holds these clauses takes up to the most of a file
 abbrev pub limited : Rule → List Clause → Rule
-limited fits held = limited_to (max CLAUSES (length held)) fits
+limited fits held = limited_to (max MOST_CLAUSES (length held)) fits
 
 -- what comes of a file where so many bytes are lent
 abbrev pub text_outcome : ℕ → List ℕ → Result Progress Refusal
-text_outcome room file = translation encoding (limited_to CLAUSES (has_room text_layout room)) [] (take INPUT file)
+text_outcome room file = translation encoding (limited_to MOST_CLAUSES (has_room text_layout room)) []
+    (take MOST_INPUT file)
 
 -- the text shows the file's clauses and reads back as just these, they mean the file's lines, and the header's two
 -- numbers are true
@@ -24,6 +25,6 @@ pub record Printed (room : ℕ) (file : List ℕ) (h : Header) (text : List ℕ)
   pub clauses : List Clause
   pub written : text_outcome room file ≡ Ok (record { held = clauses; numbers = h.variables })
   pub counted : h.clauses ≡ length clauses
-  pub meant : Meant (take INPUT file) [] clauses h
+  pub meant : Meant (take MOST_INPUT file) [] clauses h
   pub shown : text ≡ text_of clauses
   pub reads : read_text text ≡ Some clauses

@@ -13,7 +13,7 @@ fn part(bytes: &[u8]) -> Option<(&[u8], &[u8])>
     rest.split_at_checked(usize::from(u16::from_be_bytes(*size)))
 }
 
-// Prints what comes of every case below its name.
+/// Prints what comes of every case below its name.
 pub fn print_cases(rt: &HostRuntime, cases: &[u8]) -> io::Result<()> {
     let mut rest = cases;
     while let Some((name, after)) = part(rest) {

@@ -1,5 +1,5 @@
 -- What an assignment makes of a line: its total, and whether it meets the line.
-use Rattle.std.specs.Prelude.{ℕ, suc, ◌+◌, Bool, cond, not, ◌&&◌, List, [], ◌∷◌, ℤ, pos, negsuc, ◌+ℤ◌, ◌==◌}
+use Rattle.std.specs.Prelude.{ℕ, suc, ◌+◌, Bool, cond, not, ◌&&◌, List, [], ◌∷◌, ℤ, pos, negsuc, ◌+ℤ◌, ◌==◌, true}
 use Rattle.std.specs.Prelude.{int_le, int_lt, nat_le}
 use Rattle.pb.specs.declared.relation.Relation.{Relation}
 use Rattle.pb.specs.declared.relation.Relation.TheVariants.{AtLeast, AtMost, Exactly, MoreThan, LessThan}
@@ -46,3 +46,8 @@ reaches Just t b = t == b
 
 abbrev pub met : Assignment → Working → Bool
 met a w = reaches w.sense (weighed a w.terms) w.bound
+
+-- whether an assignment meets every line of a list
+abbrev pub meets_each : Assignment → List Line → Bool
+meets_each a [] = true
+meets_each a (l ∷ ls) = meets a l && meets_each a ls

@@ -44,8 +44,8 @@ share v (negsuc l) w = cond (suc l == v) (neg_ℤ w) (pos 0)
 
 -- the weights of v less those of -v
 abbrev pub net : Bool → List Term → ℕ → ℤ
-net n [] v = pos 0
-net n (t ∷ ts) v = share v t.literal (weight_under n t) +ℤ net n ts v
+net negate [] v = pos 0
+net negate (t ∷ ts) v = share v t.literal (weight_under negate t) +ℤ net negate ts v
 
 -- a weight on -v is one on v of the opposite sign, with the bound lowered by it
 abbrev pub lowering : ℤ → ℤ → ℤ
@@ -53,8 +53,8 @@ lowering (pos l) w = pos 0
 lowering (negsuc l) w = w
 
 abbrev pub lowered : Bool → List Term → ℤ
-lowered n [] = pos 0
-lowered n (t ∷ ts) = lowering t.literal (weight_under n t) +ℤ lowered n ts
+lowered negate [] = pos 0
+lowered negate (t ∷ ts) = lowering t.literal (weight_under negate t) +ℤ lowered negate ts
 
 -- the term of a variable by its net weight, and how far that raises the bound
 abbrev pub term_of : ℕ → ℤ → List WorkingTerm

@@ -8,6 +8,7 @@ use Rattle.std.proofs.lemmas.Nat.{from_be_bytes-to_be_bytes_2}
 use Rattle.fault.specs.declared.book.BookFault.TheVariants.{Variables as BadVariables}
 use Rattle.fault.specs.declared.file.FileFault.{FileFault}
 use Rattle.fault.specs.declared.file.FileFault.TheVariants.{Trailing, Line as LineAt, Book as BookAt}
+use Rattle.pb.specs.declared.constraint.TheConstants.{MOST_TERMS, MOST_BOUND}
 use Rattle.pb.specs.declared.line_fault.LineFault.{LineFault}
 use Rattle.pb.specs.declared.line_fault.LineFault.TheVariants.{Relation as BadRelation, Bound as BadBound}
 use Rattle.pb.specs.declared.line_fault.LineFault.TheVariants.{Terms as TooMany, Literal as BadLiteral}
@@ -154,14 +155,14 @@ header_refused : (n at number terms : ℕ) (bound : ℤ) (rest : List ℕ) (e : 
 header_refused n at number terms bound rest e fits h =
     ap (λ r. r >>= judged n at) (header_read number terms at bound rest fits) ∙ rw h refl
 
-bound_out : (r : Relation) (bound : ℤ) (terms : ℕ) → 1000000 < nat_abs bound
+bound_out : (r : Relation) (bound : ℤ) (terms : ℕ) → MOST_BOUND < nat_abs bound
     → checked_head (relation_number r) bound terms ≡ Err BadBound
-bound_out r bound terms over = rw (relation_back r, lt-leb (nat_abs bound) 1000000 over) refl
+bound_out r bound terms over = rw (relation_back r, lt-leb (nat_abs bound) MOST_BOUND over) refl
 
-terms_out : (r : Relation) (bound : ℤ) (terms : ℕ) → nat_abs bound ≤ 1000000 → 64 < terms
+terms_out : (r : Relation) (bound : ℤ) (terms : ℕ) → nat_abs bound ≤ MOST_BOUND → MOST_TERMS < terms
     → checked_head (relation_number r) bound terms ≡ Err TooMany
 terms_out r bound terms bounded over =
-    rw (relation_back r, le-leb (nat_abs bound) 1000000 bounded, lt-leb terms 64 over) refl
+    rw (relation_back r, le-leb (nat_abs bound) MOST_BOUND bounded, lt-leb terms MOST_TERMS over) refl
 
 -- where a term's fault stands
 term_place : (at : ℕ) (before : List Term)

@@ -5,6 +5,7 @@ use Rattle.std.proofs.Common.{arith, w32, SFits}
 use Rattle.std.specs.List.{AllByRecursion}
 use Rattle.std.proofs.lemmas.Bool.{and_parts, and_cases, leb-true, leb-false, ltb-true, ltb-false}
 use Rattle.std.proofs.lemmas.Bool.Decides.{nat_tests}
+use Rattle.pb.specs.declared.constraint.TheConstants.{MOST_TERMS, MOST_BOUND}
 use Rattle.pb.specs.declared.line_fault.LineFault.{LineFault}
 use Rattle.pb.specs.declared.line_fault.LineFault.TheVariants.{Relation as BadRelation, Bound as BadBound}
 use Rattle.pb.specs.declared.line_fault.LineFault.TheVariants.{Terms as TooMany, Literal as BadLiteral}
@@ -40,17 +41,18 @@ relation_named n MoreThan h = grind (arith, nat_tests)
 relation_named n LessThan h = grind (arith, nat_tests)
 
 abbrev pub HeaderSeen : ℕ → ℤ → ℕ → Result Relation LineFault → Type 0
-HeaderSeen number bound terms (Ok r) = (number ≡ relation_number r) × (nat_abs bound ≤ 1000000) × (terms ≤ 64)
+HeaderSeen number bound terms (Ok r) = (number ≡ relation_number r) × (nat_abs bound ≤ MOST_BOUND)
+    × (terms ≤ MOST_TERMS)
 HeaderSeen number bound terms (Err BadRelation) = relation_of number ≡ None
 HeaderSeen number bound terms (Err BadBound) =
-    (r : Relation) × (number ≡ relation_number r) × (1000000 < nat_abs bound)
+    (r : Relation) × (number ≡ relation_number r) × (MOST_BOUND < nat_abs bound)
 HeaderSeen number bound terms (Err TooMany) =
-    (r : Relation) × (number ≡ relation_number r) × (nat_abs bound ≤ 1000000) × (64 < terms)
+    (r : Relation) × (number ≡ relation_number r) × (nat_abs bound ≤ MOST_BOUND) × (MOST_TERMS < terms)
 HeaderSeen number bound terms (Err (BadLiteral i)) = ⊥
 HeaderSeen number bound terms (Err (BadWeight i)) = ⊥
 
 sized_seen : (number terms : ℕ) (bound : ℤ) (r : Relation) → number ≡ relation_number r → (p q : Bool)
-    → leb (nat_abs bound) 1000000 ≡ p → leb terms 64 ≡ q
+    → leb (nat_abs bound) MOST_BOUND ≡ p → leb terms MOST_TERMS ≡ q
     → HeaderSeen number bound terms (cond p (cond q (Ok r) (Err TooMany)) (Err BadBound))
 sized_seen number terms bound r is true true small few = (is, leb-true _ _ small, leb-true _ _ few)
 sized_seen number terms bound r is true false small many = (r, is, leb-true _ _ small, leb-false _ _ many)

@@ -8,6 +8,7 @@ use Rattle.std.proofs.lemmas.Bool.{and_parts, ltb-true, leb-true, le-leb}
 use Rattle.fault.specs.declared.book.BookFault.TheVariants.{Variables as BadVariables}
 use Rattle.fault.specs.declared.file.FileFault.{FileFault}
 use Rattle.fault.specs.declared.file.FileFault.TheVariants.{Book as BookAt}
+use Rattle.pb.specs.declared.constraint.TheConstants.{MOST_TERMS, MOST_BOUND}
 use Rattle.pb.specs.declared.line_fault.LineFault.{LineFault}
 use Rattle.pb.specs.declared.relation.Relation.{Relation}
 use Rattle.pb.specs.declared.term.Term.{Term}
@@ -52,7 +53,7 @@ with_body at rest body l h =
     (header_seen (relation_in body) (terms_in body) (bound_in body)) in
     let many = read_length _ _ _ q.0 q.1 in
     subst (λ (m : Line). IsHeaderInRange m.bound (length m.terms)) is
-    (seen.1, subst (λ k. k ≤ 64) (sym many) seen.2)
+    (seen.1, subst (λ k. k ≤ MOST_TERMS) (sym many) seen.2)
 
 of_body : (at : ℕ) (rest : List ℕ) (o : Option (List ℕ)) (l : Line) → read_line_of at rest o ≡ Ok (Some l)
     → IsHeaderInRange l.bound (length l.terms)
@@ -70,7 +71,7 @@ pub read_check : (n at : ℕ) (rest : List ℕ) (l : Line) → read_line at rest
     → line_check n l ≡ terms_fault n 1 l.terms
 read_check n at rest l h =
     let p = header_in_range at rest l h in
-    rw (le-leb (nat_abs l.bound) 1000000 p.0, le-leb (length l.terms) 64 p.1)
+    rw (le-leb (nat_abs l.bound) MOST_BOUND p.0, le-leb (length l.terms) MOST_TERMS p.1)
 
 -- a line that was judged
 none_wrong : (at : ℕ) (m l : Line) (o : Option LineFault) → line_or_fault at m o ≡ Ok (Some l) → (o ≡ None) × (m ≡ l)

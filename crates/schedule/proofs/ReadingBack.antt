@@ -9,6 +9,8 @@ use Rattle.std.proofs.lemmas.List.{take_at}
 use Rattle.std.proofs.lemmas.Bool.{le-leb}
 use Rattle.std.proofs.lemmas.Bool.Decides.{nat_tests}
 use Rattle.fault.specs.declared.file.FileFault.{FileFault}
+use Rattle.pb.specs.declared.constraint.TheConstants.{MOST_TERMS, MOST_BOUND}
+use Rattle.pb.specs.declared.term.TheConstants.{MOST_WEIGHT}
 use Rattle.pb.specs.declared.line_fault.LineFault.{LineFault}
 use Rattle.pb.specs.declared.line_fault.LineFault.TheVariants.{Literal as BadLiteral, Weight as BadWeight}
 use Rattle.pb.specs.declared.relation.Relation.{Relation}
@@ -86,9 +88,9 @@ relation_back LessThan = refl
 pub header_back : (r : Relation) (bound : ℤ) (terms : ℕ) → IsHeaderInRange bound terms
     → checked_head (relation_number r) bound terms ≡ Ok r
 header_back r bound terms h =
-    rw (relation_back r, le-leb (nat_abs bound) 1000000 h.0, le-leb terms 64 h.1)
+    rw (relation_back r, le-leb (nat_abs bound) MOST_BOUND h.0, le-leb terms MOST_TERMS h.1)
 
-pub fits_4 : (z : ℤ) → nat_abs z ≤ 1000000 → SFits w32 z
+pub fits_4 : (z : ℤ) → nat_abs z ≤ MOST_BOUND → SFits w32 z
 fits_4 z h = fits_signed_from_abs w32 z (omega arith)
 
 -- what its first record makes of a line, in order or not
@@ -129,7 +131,7 @@ line_back l at rest h fit =
 first_in_range : (n i : ℕ) (t : Term) (r : Option LineFault)
     → cond (literal_named n t.literal) (cond (weight_small t.weight) r (Some (BadWeight i))) (Some (BadLiteral i))
     ≡ None
-    → (nat_abs t.literal ≤ n) × (nat_abs t.weight ≤ 10000) × (r ≡ None)
+    → (nat_abs t.literal ≤ n) × (nat_abs t.weight ≤ MOST_WEIGHT) × (r ≡ None)
 first_in_range n i t r h = (grind (arith, nat_tests), grind (arith, nat_tests), grind (arith, nat_tests))
 
 pub terms_fit : (n i : ℕ) (ts : List Term) → n ≤ MOST_VARIABLES → terms_fault n i ts ≡ None

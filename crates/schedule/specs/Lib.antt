@@ -2,5 +2,5 @@ pub mod Records
 pub mod Reading
 pub mod Writing
 pub mod Faults
-pub mod Held
+pub mod ReadLine
 pub mod Place

@@ -10,7 +10,9 @@ use pb::term::Term;
 /// A line of a schedule file, whose terms are not judged yet.
 #[derive(Clone, Copy, PartialEq, Eq, Debug)]
 pub struct ReadLine {
+    /// How its total and its bound are to compare.
     pub relation: Relation,
+    /// Its bound.
     pub bound: i32,
     /// Where its first record stands in the file, in bytes from the first.
     pub offset: usize,
@@ -22,7 +24,7 @@ pub struct ReadLine {
 }
 
 impl ReadLine {
-    ghost use Rattle.schedule.specs.Held.{line_of};
+    ghost use Rattle.schedule.specs.ReadLine.{line_of};
 
     /// The line's terms, in the order of the file.
     pub fn terms(&self) -> &[Term]

@@ -5,7 +5,7 @@ ghost use Rattle.schedule.specs.Records.{record_body, line_body, record_size};
 ghost use Rattle.schedule.specs.Reading.{read_variables, read_terms, read_line, line_size};
 ghost use Rattle.schedule.specs.Writing.{ReadsBack, ReadsOnly};
 ghost use Rattle.schedule.specs.Faults.{FaultsHaveCause, CausesGiveFault};
-ghost use Rattle.schedule.specs.Held.{line_of};
+ghost use Rattle.schedule.specs.ReadLine.{line_of};
 
 use crate::bodies;
 use crate::fields::{LineHeader, term_in, variables_in};
@@ -32,9 +32,9 @@ pub struct Reader<'a> {
 impl<'a> Reader<'a> {
     ghost use Rattle.schedule.specs.Place.{input_of, offset_of, rest_of, ReadOn};
 
-    /// A reader that stands at the file's first byte. By the definitions that the calls below answer with, the file
-    /// of a schedule reads back as that schedule, nothing else is read as one, and a fault is answered where its
-    /// cause stands and nowhere else.
+    /// A reader that stands at the file's first byte. What the calls below answer, and what the check of each line
+    /// finds in it, comes together in the definition of reading a file, by which the file of a schedule reads back as
+    /// that schedule, nothing else is read as one, and a fault is answered where its cause stands and nowhere else.
     pub fn new(input: &'a [u8]) -> Reader<'a>
         ensures input { input_of result ≡ input.now }
         ensures start { offset_of result ≡ 0 }

@@ -6,6 +6,7 @@ use crate::mark::Mark;
 /// A record of a schedule file, which it borrows.
 #[derive(Clone, Copy, PartialEq, Eq, Debug)]
 pub struct Record<'a> {
+    /// What kind of record it is.
     pub mark: Mark,
     /// What follows the mark.
     pub body: &'a [u8],

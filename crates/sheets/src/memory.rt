@@ -14,6 +14,6 @@ pub struct MemorySheet<'a, L: CellLayout> {
     memory: &'a mut [L::Cell],
     used: usize,
     count: usize,
-    lay: PhantomData<L>,
+    layout: PhantomData<L>,
     ghost front: { Front L.layout memory.now used count },
 }

@@ -12,7 +12,7 @@ use Rattle.schedule.specs.Reading.{read_schedule}
 use Rattle.schedule.specs.Writing.{file_of, IsWithinLimits}
 use Rattle.schedule.proofs.Steps.{bind_ok}
 use Rattle.schedule.proofs.WholeFiles.{reads_back}
-use Rattle.translate.specs.declared.taking.TheConstants.{LINES, TERMS}
+use Rattle.translate.specs.declared.taking.TheConstants.{MOST_LINES, MOST_BOOK_TERMS}
 use Rattle.translate.specs.Books.{no_more_lines, enter_placed, enter_schedule, enter_file, HasRoom, EntersWhatFits}
 
 -- the lines as they were read
@@ -91,7 +91,7 @@ whole_read : (r : FileRead) (s : Schedule) (fault : Option FileFault)
 whole_read r s None h = (refl, cc)
 whole_read r s (Some e) h = cc
 
-read_as : (r : FileRead) (ls : List Line) (s : Schedule) → AllEntered LINES 0 TERMS r.lines r.fault ls
+read_as : (r : FileRead) (ls : List Line) (s : Schedule) → AllEntered MOST_LINES 0 MOST_BOOK_TERMS r.lines r.fault ls
     → record { variables = r.variables; lines = ls } ≡ s → (schedule_read r ≡ Ok s) × HasRoom s
 read_as r ls s all is =
     let read = ap (schedule_unless (record { variables = r.variables; lines = lines_of r.lines })) all.no_fault
@@ -101,22 +101,22 @@ read_as r ls s all is =
 
 entered_as : (r : FileRead) (s : Schedule)
     → (r.fault ≡ None) × (record { variables = r.variables; lines = lines_of r.lines } ≡ s)
-    → HasRoom s → enter_schedule LINES TERMS r ≡ Ok s
+    → HasRoom s → enter_schedule MOST_LINES MOST_BOOK_TERMS r ≡ Ok s
 entered_as r s whole room =
     let fits = subst HasRoom (sym whole.1) room in
     let many = length-map r.lines (λ (p : PlacedLine). p.line) in
     let l = fits.lines_fit in
-    let all = fitting_entered LINES 0 TERMS r.lines (omega arith) fits.terms_fit in
+    let all = fitting_entered MOST_LINES 0 MOST_BOOK_TERMS r.lines (omega arith) fits.terms_fit in
     let done : List Line → Result Schedule FileFault = λ ls. Ok (record { variables = r.variables; lines = ls }) in
-    ap (λ f. enter_placed LINES 0 TERMS r.lines f >>= done) whole.0 ∙ ap (λ o. o >>= done) all
+    ap (λ f. enter_placed MOST_LINES 0 MOST_BOOK_TERMS r.lines f >>= done) whole.0 ∙ ap (λ o. o >>= done) all
     ∙ ap Ok whole.1
 
 entered_is_read : (input : List ℕ) (s : Schedule) → enter_file input ≡ Ok s
     → (read_schedule input ≡ Ok s) × HasRoom s
 entered_is_read input s h =
     let r = read_file input in
-    let p = bind_ok (enter_placed LINES 0 TERMS r.lines r.fault) _ s h in
-    read_as r p.0 s (all_entered LINES 0 TERMS r.lines r.fault p.0 p.1) cc
+    let p = bind_ok (enter_placed MOST_LINES 0 MOST_BOOK_TERMS r.lines r.fault) _ s h in
+    read_as r p.0 s (all_entered MOST_LINES 0 MOST_BOOK_TERMS r.lines r.fault p.0 p.1) cc
 
 read_is_entered : (input : List ℕ) (s : Schedule) → read_schedule input ≡ Ok s → HasRoom s → enter_file input ≡ Ok s
 read_is_entered input s h room = entered_as (read_file input) s (whole_read (read_file input) s _ h) room

@@ -1,6 +1,7 @@
 -- A line's fault stands within the line's records, so that its offset fits.
 use Rattle.std.proofs.Common.{◌≡◌, ℕ, suc, ◌+◌, ◌*◌, ◌≤◌, Bool, true, false, cond, leb, List, [], ◌∷◌, length}
 use Rattle.std.proofs.Common.{nat_abs, Some, Option, arith}
+use Rattle.pb.specs.declared.constraint.TheConstants.{MOST_TERMS, MOST_BOUND}
 use Rattle.pb.specs.declared.line_fault.LineFault.{LineFault}
 use Rattle.pb.specs.declared.line_fault.LineFault.TheVariants.{Bound as BadBound, Terms as TooMany}
 use Rattle.pb.specs.declared.line_fault.LineFault.TheVariants.{Literal as BadLiteral, Weight as BadWeight}
@@ -31,6 +32,6 @@ pub fault_within : (at n : ℕ) (l : Line) (e : LineFault) → line_check n l �
     → offset_of_fault at e ≤ at + line_size l
 fault_within at n l e h =
     first_or (λ x. offset_of_fault at x ≤ at + line_size l)
-    (leb (nat_abs l.bound) 1000000) (leb (length l.terms) 64) BadBound TooMany e (terms_fault n 1 l.terms)
+    (leb (nat_abs l.bound) MOST_BOUND) (leb (length l.terms) MOST_TERMS) BadBound TooMany e (terms_fault n 1 l.terms)
     (omega arith) (omega arith)
     (λ k. omega (arith, terms_within at n 1 l.terms e k)) h

@@ -18,12 +18,12 @@ use Rattle.encode.proofs.Together.{lines_together}
 use Rattle.pb.specs.Checks.{PassesChecks}
 use Rattle.schedule.proofs.Steps.{bind_ok}
 use Rattle.pb.specs.Lines.{Line, Working}
-use Rattle.pb.specs.Meaning.{Assignment, meets, met}
+use Rattle.pb.specs.Meaning.{Assignment, meets, met, meets_each}
 use Rattle.translate.specs.declared.header.Header.{Header}
 use Rattle.pb.specs.Tightened.{working_form}
 use Rattle.translate.specs.Translation.{Progress, write_by, lines_written, write_schedule, or_refusal}
 use Rattle.translate.specs.Translation.{Done}
-use Rattle.translate.specs.Solutions.{meets_each, Meant}
+use Rattle.translate.specs.Solutions.{Meant}
 use Rattle.pb.proofs.Forms.{forms_keep}
 use Rattle.translate.proofs.Whole.{IsCount, written_ok, in_reach, or_refusal_ok, entered_within}
 

@@ -21,19 +21,20 @@ use Rattle.cnf.specs.Clauses.{Clause}
 use Rattle.cnf.specs.declared.sheet.Sheet.{Ghosts}
 use Rattle.encode.specs.Law.{Encoding}
 use Rattle.translate.specs.declared.run.Run.{Run}
-use Rattle.translate.specs.declared.taking.TheConstants.{LINES, TERMS}
+use Rattle.translate.specs.declared.taking.TheConstants.{MOST_LINES, MOST_BOOK_TERMS}
 use Rattle.translate.specs.Books.{enter_lines, enter_schedule}
 use Rattle.pb.specs.Tightened.{working_form}
 use Rattle.translate.specs.Translation.{Progress, write_by, write_schedule, or_refusal, translation}
 use Rattle.translate.specs.Translation.{OfSchedules}
-use Rattle.translate.specs.Streaming.{fresh, progress, outcome, coming, GoesOn, EndsWith, Added}
+use Rattle.translate.specs.Streaming.{fresh, progress, outcome, coming, GoesOn, EndsWith, OnlyAppends}
 use Rattle.translate.specs.Entering.{Entered, NotEntered}
 use Rattle.translate.proofs.Books.{enters_file}
 use Rattle.translate.proofs.Lines.{outcome_more, lines_end, lines_fault, terms_stop, lines_taken, lines_full}
 
 -- what is entered from here on by a run that holds so many lines
 abbrev entered_after : Run → ℕ → ℕ → ℕ → List ℕ → Result (List Line) FileFault
-entered_after run held free at rest = enter_lines LINES held free (lines_from (variable_count run.variables) at rest)
+entered_after run held free at rest = enter_lines MOST_LINES held free
+    (lines_from (variable_count run.variables) at rest)
 
 -- what comes of writing a line of this number where a run has come so far
 abbrev pub wrote : Encoding → Rule → Run → List Clause → Line → Result Progress Refusal
@@ -43,7 +44,7 @@ wrote e fits run cs l =
 -- the line is entered, and written where writing goes on
 taken : (e : Encoding) (fits : Rule) (run : Run) (cs : List Clause) (l : Line) (at : ℕ) (rest : List ℕ)
     → read_line at rest ≡ Ok (Some l) → line_check (variable_count run.variables) l ≡ None
-    → run.held < LINES → length l.terms ≤ run.free
+    → run.held < MOST_LINES → length l.terms ≤ run.free
     → coming e fits run cs at rest
     ≡ outcome e fits (variable_count run.variables) (suc (run.held + 1)) (wrote e fits run cs l)
     (entered_after run (run.held + 1) (run.free - length l.terms) (at + line_size l) (drop (line_size l) rest))
@@ -55,7 +56,7 @@ taken e fits run cs l at rest h fine line_free terms_free =
     let left = drop (line_size l) rest in
     let free = run.free - length l.terms in
     ap (outcome e fits n (suc run.held) state)
-    (lines_taken LINES run.held run.free n at rest l h fine line_free terms_free)
+    (lines_taken MOST_LINES run.held run.free n at rest l h fine line_free terms_free)
     ∙ outcome_more e fits n (suc run.held) state l (entered_after run (suc run.held) free on left)
     ∙ ap (λ k. outcome e fits n (suc k) (state >>= λ q. write_by e fits k q (working_form n l))
     (entered_after run k free on left)) next
@@ -97,8 +98,8 @@ pub ends_with : (e : Encoding) (fits : Rule) (run : Run) (cs : List Clause) (l :
 ends_with e fits run cs l at x h rest read =
     let n = variable_count run.variables in
     ap (outcome e fits n (suc run.held) (progress run.written cs)) (elim h.cause [
-      | inl w ↦ terms_stop LINES run.held run.free n at rest l read w.0 w.1 ∙ ap Err (sym w.2)
-      | inr w ↦ lines_full LINES run.held run.free n at rest l read w.0 w.1 ∙ ap Err (sym w.2)
+      | inl w ↦ terms_stop MOST_LINES run.held run.free n at rest l read w.0 w.1 ∙ ap Err (sym w.2)
+      | inr w ↦ lines_full MOST_LINES run.held run.free n at rest l read w.0 w.1 ∙ ap Err (sym w.2)
     ])
 
 -- the file ends, or reading stops
@@ -114,14 +115,14 @@ module _ (e : Encoding) (fits : Rule) (run : Run) (cs : List Clause) (at : ℕ) 
   comes_to h =
       sym so_far
       ∙ ap (outcome e fits (variable_count run.variables) (suc run.held) (progress run.written cs))
-      (lines_end LINES run.held run.free (variable_count run.variables) at rest h)
+      (lines_end MOST_LINES run.held run.free (variable_count run.variables) at rest h)
       ∙ no_more (progress run.written cs)
 
   pub comes_to_fault : (x : FileFault) → read_line at rest ≡ Err x → all ≡ Err (file_refusal x)
   comes_to_fault x h =
       sym so_far
       ∙ ap (outcome e fits (variable_count run.variables) (suc run.held) (progress run.written cs))
-      (lines_fault LINES run.held run.free (variable_count run.variables) at rest x h)
+      (lines_fault MOST_LINES run.held run.free (variable_count run.variables) at rest x h)
 
   pub ended_by : (x : FileFault) (l : Line) (off : ℕ) → EndsWith e fits run cs x off l → off ≡ at
       → read_line at rest ≡ Ok (Some l) → all ≡ Err (file_refusal x)
@@ -143,13 +144,14 @@ moved_on e fits run next cs ds l off before after all so_far go here on read =
     ∙ sym (goes (rest_of before) read) ∙ so_far
 
 -- what was added to a sheet in two calls
-pub added_on : {S : Type 0} (sheet : Ghosts S) (s t u : S) → Added sheet s t → Added sheet t u → Added sheet s u
-added_on sheet s t u a b = record {
+pub appends_on : {S : Type 0} (sheet : Ghosts S) (s t u : S)
+    → OnlyAppends sheet s t → OnlyAppends sheet t u → OnlyAppends sheet s u
+appends_on sheet s t u a b = record {
   stays = record { rule = b.stays.rule ∙ a.stays.rule; same = b.stays.same ∙ a.stays.same };
-  grew = record {
-    more = a.grew.more ++ b.grew.more;
-    after = b.grew.after ∙ ap (λ xs. xs ++ b.grew.more) a.grew.after
-        ∙ append_assoc (sheet.held s) a.grew.more b.grew.more;
+  appended = record {
+    more = a.appended.more ++ b.appended.more;
+    after = b.appended.after ∙ ap (λ xs. xs ++ b.appended.more) a.appended.after
+        ∙ append_assoc (sheet.held s) a.appended.more b.appended.more;
   };
 }
 
@@ -166,8 +168,9 @@ first_lines : (e : Encoding) (fits : Rule) (v : Variables) (cs : List Clause) (i
     ≡ coming e fits (fresh v) cs (record_size VariablesMark) (drop (record_size VariablesMark) input)
 first_lines e fits v cs input h =
     let after : ℕ → _ = λ n. lines_from n (record_size VariablesMark) (drop (record_size VariablesMark) input) in
-    ap (λ r. or_refusal (enter_schedule LINES TERMS (with_variables r after)) >>= write_schedule e fits cs) h
-    ∙ whole e fits (variable_count v) cs (enter_lines LINES 0 TERMS (after (variable_count v)))
+    ap (λ r. or_refusal (enter_schedule MOST_LINES MOST_BOOK_TERMS (with_variables r after)) >>=
+    write_schedule e fits cs) h
+    ∙ whole e fits (variable_count v) cs (enter_lines MOST_LINES 0 MOST_BOOK_TERMS (after (variable_count v)))
 
 pub comes_to_all : (e : Encoding) (fits : Rule) (v : Variables) (cs : List Clause) (input : List ℕ)
     (first after : Reader)

@@ -6,7 +6,7 @@ use Rattle.fault.specs.declared.file.FileFault.{FileFault}
 use Rattle.fault.specs.declared.file.FileFault.TheVariants.{Book as BookAt}
 use Rattle.pb.specs.Lines.{Line}
 use Rattle.schedule.specs.Reading.{◌>>=◌, PlacedLine, LinesRead, FileRead, Schedule, read_file, read_schedule}
-use Rattle.translate.specs.declared.taking.TheConstants.{LINES, TERMS}
+use Rattle.translate.specs.declared.taking.TheConstants.{MOST_LINES, MOST_BOOK_TERMS}
 
 -- no line is left: all are entered, or a fault ended reading
 abbrev pub no_more_lines : Option FileFault → Result (List Line) FileFault
@@ -35,12 +35,12 @@ enter_schedule lines terms r = do
 
 -- the same by the book of a run
 abbrev pub enter_file : List ℕ → Result Schedule FileFault
-enter_file input = enter_schedule LINES TERMS (read_file input)
+enter_file input = enter_schedule MOST_LINES MOST_BOOK_TERMS (read_file input)
 
 -- that book has room for the lines
 pub record HasRoom (s : Schedule) : Type 0 where
-  pub lines_fit : length s.lines ≤ LINES
-  pub terms_fit : sum_by (λ l. length l.terms) s.lines ≤ TERMS
+  pub lines_fit : length s.lines ≤ MOST_LINES
+  pub terms_fit : sum_by (λ l. length l.terms) s.lines ≤ MOST_BOOK_TERMS
 
 -- what is entered is just what is read as a schedule that there is room for
 abbrev pub EntersWhatFits : Type 0

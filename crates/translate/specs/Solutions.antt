@@ -3,16 +3,10 @@
 use Rattle.std.specs.Prelude.{◌≡◌, ℕ, Bool, true, ◌&&◌, List, [], ◌∷◌, ◌++◌, Ok}
 use Rattle.cnf.specs.Clauses.{Clause}
 use Rattle.encode.specs.Solutions.{Solutions}
-use Rattle.pb.specs.Lines.{Line}
-use Rattle.pb.specs.Meaning.{Assignment, meets}
+use Rattle.pb.specs.Meaning.{meets_each}
 use Rattle.schedule.specs.Reading.{Schedule}
 use Rattle.translate.specs.Books.{enter_file}
 use Rattle.translate.specs.declared.header.Header.{Header}
-
--- whether an assignment meets every line of a list
-abbrev pub meets_each : Assignment → List Line → Bool
-meets_each a [] = true
-meets_each a (l ∷ ls) = meets a l && meets_each a ls
 
 -- what a sheet that held cs holds after a file was translated: the clauses added are those of the file's schedule
 pub record Meant (input : List ℕ) (cs held : List Clause) (h : Header) : Type 0 where

@@ -13,14 +13,14 @@ use Rattle.pb.specs.Variables.{variable_count}
 use Rattle.pb.specs.Lines.{Line}
 use Rattle.pb.specs.declared.variables.Variables.{Variables}
 use Rattle.schedule.specs.Reading.{◌>>=◌, read_line, lines_from, line_size}
-use Rattle.translate.specs.declared.taking.TheConstants.{LINES, TERMS}
+use Rattle.translate.specs.declared.taking.TheConstants.{MOST_LINES, MOST_BOOK_TERMS}
 use Rattle.translate.specs.Books.{enter_lines}
 use Rattle.translate.specs.declared.run.Run.{Run}
 use Rattle.translate.specs.Translation.{Progress, lines_written}
 
 -- a run before its first line
 abbrev pub fresh : Variables → Run
-fresh v = record { variables = v; held = 0; free = TERMS; written = Ok (variable_count v) }
+fresh v = record { variables = v; held = 0; free = MOST_BOOK_TERMS; written = Ok (variable_count v) }
 
 -- what writing has come to: the clauses held and the numbers taken, or its first refusal
 abbrev pub progress : Result ℕ Refusal → List Clause → Result Progress Refusal
@@ -37,7 +37,7 @@ outcome e fits n number state (Ok ls) = state >>= λ p. lines_written e fits n n
 abbrev pub coming : Encoding → Rule → Run → List Clause → ℕ → List ℕ → Result Progress Refusal
 coming e fits run cs at rest =
     outcome e fits (variable_count run.variables) (suc run.held) (progress run.written cs)
-    (enter_lines LINES run.held run.free (lines_from (variable_count run.variables) at rest))
+    (enter_lines MOST_LINES run.held run.free (lines_from (variable_count run.variables) at rest))
 
 -- a run goes on from a line, which stood here, to what follows it
 abbrev pub GoesOn : Encoding → Rule → Run → List Clause → Run → List Clause → ℕ → Line → Type 0
@@ -50,12 +50,12 @@ EndsWith e fits run cs x at l =
     (rest : List ℕ) → read_line at rest ≡ Ok (Some l) → coming e fits run cs at rest ≡ Err (file_refusal x)
 
 -- clauses were written after what was there
-pub record Grew (cs ds : List Clause) : Type 0 where
+pub record Appended (cs ds : List Clause) : Type 0 where
   pub more : List Clause
   pub after : ds ≡ cs ++ more
 
 -- whatever a call did, clauses were written to the sheet only after what it held; s is the sheet before the call and
 -- t the sheet after it
-pub record Added {S : Type 0} (sheet : Ghosts S) (s t : S) : Type 0 where
+pub record OnlyAppends {S : Type 0} (sheet : Ghosts S) (s t : S) : Type 0 where
   pub stays : SameSheet sheet s t
-  pub grew : Grew (sheet.held s) (sheet.held t)
+  pub appended : Appended (sheet.held s) (sheet.held t)

@@ -3,9 +3,12 @@ ghost use Rattle.std.specs.Prelude.{◌++◌, Some, codes, decimal};
 
 use std::fmt;
 
-#[derive(Clone, Copy, PartialEq, Debug)]
+/// The first line of a DIMACS file.
+#[derive(Clone, Copy, PartialEq, Eq, Debug)]
 pub struct Header {
+    /// The highest number that a variable or an auxiliary has.
     pub variables: u16,
+    /// How many clauses there are.
     pub clauses: usize,
 }
 

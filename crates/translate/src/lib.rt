@@ -9,7 +9,7 @@ ghost use Rattle.pb.specs.Laws.{FormsKeep};
 ghost use Rattle.schedule.specs.Place.{offset_of, rest_of};
 ghost use Rattle.translate.specs.Books.{EntersWhatFits};
 ghost use Rattle.translate.specs.Translation.{encoding, translation, Done, Undone, OfSchedules};
-ghost use Rattle.translate.specs.Streaming.{fresh, progress, coming, Added};
+ghost use Rattle.translate.specs.Streaming.{fresh, progress, coming, OnlyAppends};
 ghost use Rattle.translate.specs.Whole.{WholeLists};
 ghost use Rattle.translate.specs.Solutions.{Meant};
 
@@ -37,7 +37,7 @@ fn write_lines<E: Encoder, S: Sheet>(
     variables: Variables,
     sheet: &mut S,
 ) -> Result<u16, Refusal>
-    ensures added { Added S.Sheet sheet.old sheet.new }
+    ensures appends { OnlyAppends S.Sheet sheet.old sheet.new }
     ensures comes { coming (E.Encoder.meaning encoder.now) (S.Sheet.fits sheet.old) (fresh variables)
         (S.Sheet.held sheet.old) (offset_of reader.old) (rest_of reader.old)
         ≡ progress result (S.Sheet.held sheet.new) }
@@ -55,7 +55,7 @@ fn write_file<E: Encoder, S: Sheet>(
     input: &[u8],
     sheet: &mut S,
 ) -> Result<Header, Refusal>
-    ensures added { Added S.Sheet sheet.old sheet.new }
+    ensures appends { OnlyAppends S.Sheet sheet.old sheet.new }
     ensures cases { MatchResult result
         (λ h. Done (E.Encoder.meaning encoder.now) (S.Sheet.fits sheet.old) input.now (S.Sheet.held sheet.old)
         (S.Sheet.held sheet.new) h)
@@ -71,8 +71,9 @@ fn write_file<E: Encoder, S: Sheet>(
     })
 }
 
-// Writes the clauses that an encoder makes of a schedule file after what the sheet holds, and answers what stands
-// before them; or says why not, and leaves the sheet as it was.
+/// Writes the clauses that an encoder makes of a schedule file after what the sheet holds, and answers what stands
+/// before them; or says why not, and the sheet holds what it held. Its memory past that is free: lines before the one
+/// that was refused may have left something there.
 // encoder and sheet as two parameters, here and below, since one is only read and the other written, and no call
 // keeps both.
 #[tactic(auto, using(crate::proofs::Steps::of_a_schedule))]
@@ -105,7 +106,7 @@ pub fn translate_by<E: Encoder, S: Sheet>(
     outcome
 }
 
-// The direct encoder for lines of up to 12 terms, the order encoder for the others.
+/// The direct encoder for lines of few terms, the order encoder for the others.
 pub fn by_terms() -> UpTo<Direct, Order>
     ensures most { result.most ≡ MOST_DIRECT_TERMS }
     ensures meaning { ⟦<UpTo<Direct, Order> as Encoder>⟧.meaning result ≡ encoding }
@@ -117,7 +118,7 @@ pub fn by_terms() -> UpTo<Direct, Order>
     }
 }
 
-// The same by the encoder that goes by a line's terms.
+/// The same by the encoder that goes by a line's terms.
 pub fn translate<S: Sheet>(input: &[u8], sheet: &mut S) -> Result<Header, Refusal>
     ensures stays { SameSheet S.Sheet sheet.old sheet.new }
     ensures cases { MatchResult result

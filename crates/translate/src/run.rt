@@ -3,7 +3,7 @@ use fault::refusal::Refusal;
 use pb::variables::Variables;
 
 // The book of a run, by what is left of it, and what writing has come to.
-#[derive(Clone, Copy)]
+#[derive(Clone, Copy, PartialEq, Eq, Debug)]
 pub(crate) struct Run {
     pub(crate) variables: Variables,
     // lines entered so far

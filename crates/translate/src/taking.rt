@@ -4,9 +4,9 @@ ghost use Rattle.cnf.specs.declared.clause.TheConstants.{LAST_NUMBER};
 ghost use Rattle.pb.specs.declared.constraint.TheConstants.{MOST_TERMS};
 ghost use Rattle.pb.specs.Lines.{line_in};
 ghost use Rattle.pb.specs.Tightened.{tightened};
-ghost use Rattle.schedule.specs.Held.{line_of};
+ghost use Rattle.schedule.specs.ReadLine.{line_of};
 ghost use Rattle.schedule.specs.Reading.{offset_of_fault, line_size};
-ghost use Rattle.translate.specs.Streaming.{fresh, Added, GoesOn, EndsWith};
+ghost use Rattle.translate.specs.Streaming.{fresh, OnlyAppends, GoesOn, EndsWith};
 ghost use Rattle.translate.specs.Entering.{Entered, NotEntered};
 
 use crate::run::Run;
@@ -25,10 +25,10 @@ use schedule::line::ReadLine;
 use schedule::mark::{MARK_SIZE, TERM_SIZE};
 
 /// The most lines that the book of a run holds.
-pub const LINES: usize = 24;
+pub const MOST_LINES: usize = 24;
 
 /// The most terms that its lines have in all.
-pub const TERMS: usize = 512;
+pub const MOST_BOOK_TERMS: usize = 512;
 
 // A term's fault stands at the record of that term, any other at the line's first record.
 fn fault_offset(at: usize, fault: LineFault) -> usize
@@ -59,7 +59,7 @@ impl Run {
         Run {
             variables,
             held: 0,
-            free: TERMS,
+            free: MOST_BOOK_TERMS,
             written: Ok(variables.count()),
         }
     }
@@ -86,7 +86,7 @@ impl Run {
                 }
             },
         )?;
-        if self.held >= LINES || line.terms().len() > self.free {
+        if self.held >= MOST_LINES || line.terms().len() > self.free {
             return Err(FileFault::from(AtOffset {
                 offset: line.offset,
                 fault: BookFault::Full(self.held),
@@ -109,7 +109,7 @@ impl Run {
         requires ends { line.now.offset + line_size (line_of line.now) < 2 ^ 64 }
         requires low { IfOk self.old.written (λ last. last ≤ LAST_NUMBER) }
         ensures low { IfOk self.new.written (λ last. last ≤ LAST_NUMBER) }
-        ensures added { Added S.Sheet sheet.old sheet.new }
+        ensures appends { OnlyAppends S.Sheet sheet.old sheet.new }
         ensures cases { MatchResult result
             (λ _. GoesOn (E.Encoder.meaning encoder.now) (S.Sheet.fits sheet.old) self.old (S.Sheet.held sheet.old)
             self.new (S.Sheet.held sheet.new) line.now.offset (line_of line.now))

@@ -4,7 +4,7 @@ ghost use Rattle.cnf.specs.declared.clause.TheConstants.{LAST_NUMBER};
 ghost use Rattle.fault.specs.Refusals.{book_refusal};
 ghost use Rattle.pb.specs.Lines.{working_of};
 ghost use Rattle.translate.specs.Translation.{write_by};
-ghost use Rattle.translate.specs.Streaming.{progress, Added};
+ghost use Rattle.translate.specs.Streaming.{progress, OnlyAppends};
 
 use cnf::clause::LAST_NUMBER;
 use cnf::sheet::Sheet;
@@ -32,7 +32,7 @@ pub(crate) fn write<E: Encoder, S: Sheet>(
     sheet: &mut S,
 ) -> Result<u16, Refusal>
     requires { taken ≤ LAST_NUMBER }
-    ensures added { Added S.Sheet sheet.old sheet.new }
+    ensures appends { OnlyAppends S.Sheet sheet.old sheet.new }
     ensures low { IfOk result (λ last. last ≤ LAST_NUMBER) }
     ensures comes { write_by (E.Encoder.meaning encoder.now) (S.Sheet.fits sheet.old) number
         (record { held = S.Sheet.held sheet.old; numbers = taken }) (working_of line.entry)

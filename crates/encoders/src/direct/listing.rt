@@ -37,7 +37,7 @@ impl Listing for ShortLine<'_> {
 }
 
 // The least sets of terms, where their literals are to reach a bound, or with `flip` their complements are.
-#[derive(Clone, Copy)]
+#[derive(Clone, Copy, PartialEq, Eq, Debug)]
 struct LeastSets<'a> {
     terms: ShortTerms<'a>,
     bound: u64,

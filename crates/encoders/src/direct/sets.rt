@@ -10,7 +10,7 @@ use encode::reaches::MOST_DIRECT_TERMS;
 use pb::working::WorkingTerm;
 
 // Terms few enough to try every set of them.
-#[derive(Clone, Copy)]
+#[derive(Clone, Copy, PartialEq, Eq, Debug)]
 pub(crate) struct ShortTerms<'a> {
     pub(crate) terms: &'a [WorkingTerm],
     ghost few: { length terms.now ≤ MOST_DIRECT_TERMS },

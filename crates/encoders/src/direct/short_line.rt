@@ -5,7 +5,7 @@ use crate::direct::sets::ShortTerms;
 use encode::reaches::MOST_DIRECT_TERMS;
 use pb::working::{Sense, WorkingLine};
 
-#[derive(Clone, Copy)]
+#[derive(Clone, Copy, PartialEq, Eq, Debug)]
 pub(crate) struct ShortLine<'a> {
     pub(crate) sense: Sense,
     pub(crate) bound: u32,

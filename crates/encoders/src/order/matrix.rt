@@ -26,14 +26,14 @@ pub(crate) fn columns(line: WorkingLine<'_>) -> usize
 }
 
 // An entry of a matrix as a part of a clause, and the part that holds just where the entry does not.
-#[derive(Clone, Copy)]
+#[derive(Clone, Copy, PartialEq, Eq, Debug)]
 struct Entry {
     holds: Part,
     fails: Part,
 }
 
 // The matrix of a line in reach: a row for each term, and auxiliaries numbered on from `first`, row by row.
-#[derive(Clone, Copy)]
+#[derive(Clone, Copy, PartialEq, Eq, Debug)]
 pub(crate) struct Matrix<'a> {
     pub(crate) line: WorkingLine<'a>,
     pub(crate) columns: usize,

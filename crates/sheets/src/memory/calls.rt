@@ -28,7 +28,7 @@ impl<'a, L: CellLayout> MemorySheet<'a, L> {
             memory,
             used: 0,
             count: 0,
-            lay: PhantomData,
+            layout: PhantomData,
         }
     }
 

@@ -2,10 +2,10 @@
 use Rattle.std.proofs.Common.{rules, ◌∙◌, subst}
 use Rattle.std.proofs.lemmas.Result.{err_from_is_err_and}
 use Rattle.std.proofs.lemmas.Option.{MatchOption-at_some, MatchOption-at_none}
-use Rattle.schedule.specs.Held.{line_of}
+use Rattle.schedule.specs.ReadLine.{line_of}
 use Rattle.schedule.specs.Place.{offset_of, rest_of}
 use Rattle.translate.specs.Streaming.{GoesOn, EndsWith}
-use Rattle.translate.proofs.Steps.{comes_to, comes_to_fault, moved_on, ended_by, added_on}
+use Rattle.translate.proofs.Steps.{comes_to, comes_to_fault, moved_on, ended_by, appends_on}
 use Rattle.translate.proofs.write_lines.Goals as goal
 
 pub loop-line-init : goal.loop-line-init
@@ -33,12 +33,12 @@ loop-line-preserved g c =
     let after = g.S.Sheet.held c.take_line.new.sheet in
     let p = c.in_ok-take_line.ensures in
     let goes = subst (λ f. GoesOn e f c.loop-line.run held c.take_line.new.self after h.offset (line_of h))
-    inv.added.stays.rule p.cases in
+    inv.appends.stays.rule p.cases in
     let read = MatchOption-at_some _ _ h c.in-Some.is c.in_ok-line.ensures.cases in
     record {
       comes = moved_on e fits c.loop-line.run c.take_line.new.self held after (line_of h) h.offset c.loop-line.reader
           c.line.new.self _ inv.comes goes read.1 read.2 read.0;
-      added = added_on g.S.Sheet _ _ _ inv.added p.added;
+      appends = appends_on g.S.Sheet _ _ _ inv.appends p.appends;
       input = read.2.same_file ∙ inv.input;
       low = p.low;
     }
@@ -55,7 +55,7 @@ returns-in_err-take_line-clause-comes g c =
     let fault = c.in_err-take_line.field-0.0 in
     let reader = c.loop-line.reader in
     let ends = subst (λ f. EndsWith e f c.loop-line.run held fault h.offset (line_of h))
-    inv.added.stays.rule c.in_err-take_line.ensures.cases in
+    inv.appends.stays.rule c.in_err-take_line.ensures.cases in
     let read = MatchOption-at_some _ _ h c.in-Some.is c.in_ok-line.ensures.cases in
     rw (r.1, r.2)
     (ended_by e fits c.loop-line.run held (offset_of reader) (rest_of reader) _ inv.comes fault (line_of h) h.offset

@@ -4,7 +4,7 @@ use Rattle.std.proofs.Common.{◌≡◌, ◌-◌, ◌≤◌, length}
 use Rattle.std.specs.Result.{IfOk}
 use Rattle.cnf.specs.declared.clause.TheConstants.{LAST_NUMBER}
 use Rattle.schedule.specs.Place.{input_of, offset_of, rest_of}
-use Rattle.translate.specs.Streaming.{fresh, coming, Added}
+use Rattle.translate.specs.Streaming.{fresh, coming, OnlyAppends}
 use Rattle.translate.proofs.write_lines.Given as goal
 
 abbrev pub invariant-loop-line : goal.invariant-loop-line
@@ -15,7 +15,7 @@ invariant-loop-line g l =
     record {
       comes : coming e fits l.run (g.S.Sheet.held l.sheet) (offset_of l.reader) (rest_of l.reader)
           ≡ coming e fits (fresh l.fn.variables) (g.S.Sheet.held l.initial.sheet) (offset_of start) (rest_of start);
-      added : Added g.S.Sheet l.initial.sheet l.sheet;
+      appends : OnlyAppends g.S.Sheet l.initial.sheet l.sheet;
       input : input_of l.reader ≡ input_of start;
       low : IfOk l.run.written (λ last. last ≤ LAST_NUMBER);
     }

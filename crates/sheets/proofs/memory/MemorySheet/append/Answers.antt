@@ -17,8 +17,8 @@ longer : (g : _) (c : After-put g)
 longer g c =
     let s = c.args.self.now in
     let ends = ap (λ n. s.used + n) c.requires.size in
-    let lay = g.met.L.CellLayout.faithful in
-    put_keeps g.L.CellLayout.layout lay s.front _ _ c.args.clause.formed (room g c) c.put.ensures ends
+    let faithful = g.met.L.CellLayout.faithful in
+    put_keeps g.L.CellLayout.layout faithful s.front _ _ c.args.clause.formed (room g c) c.put.ensures ends
 
 pub overflow_add-self-2 : goal.overflow_add-self-2
 overflow_add-self-2 g c = omega (arith, few g.L.CellLayout.layout g.met.L.CellLayout.faithful (longer g c))
@@ -31,5 +31,5 @@ returns-clause-held g c =
     let s = c.args.self.now in
     let told = (goal.at.returns-clause-held g c).After-put in
     let ends = ap (λ n. s.used + n) c.requires.size in
-    let lay = g.met.L.CellLayout.faithful in
-    put_reads g.L.CellLayout.layout lay s.front _ _ c.args.clause.formed (room g told) c.put.ensures ends
+    let faithful = g.met.L.CellLayout.faithful in
+    put_reads g.L.CellLayout.layout faithful s.front _ _ c.args.clause.formed (room g told) c.put.ensures ends

@@ -1,7 +1,7 @@
 -- A refused line's fault stands within its records, and is that of the line that was read.
 use Rattle.std.proofs.Common.{sym, ap, ◌∙◌, arith}
 use Rattle.pb.specs.Checks.{line_check}
-use Rattle.schedule.specs.Held.{line_of}
+use Rattle.schedule.specs.ReadLine.{line_of}
 use Rattle.translate.proofs.Offsets.{fault_within}
 use Rattle.translate.proofs.run.Run.enter.Goals as goal
 

@@ -2,7 +2,7 @@
 use Rattle.std.proofs.Common.{length, ap}
 use Rattle.std.proofs.lemmas.Result.{err_from_is_err_and}
 use Rattle.pb.specs.Variables.{variable_count}
-use Rattle.schedule.specs.Held.{line_of}
+use Rattle.schedule.specs.ReadLine.{line_of}
 use Rattle.translate.proofs.Forms.{front}
 use Rattle.translate.proofs.Steps.{goes_on, goes_on_writing, stopped_before, ends_with}
 use Rattle.translate.proofs.run.Run.take_line.Goals as goal

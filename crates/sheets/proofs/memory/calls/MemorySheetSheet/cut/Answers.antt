@@ -6,12 +6,12 @@ use Rattle.sheets.proofs.memory.calls.MemorySheetSheet.cut.Goals as goal
 pub invariant_of-self : goal.invariant_of-self
 invariant_of-self g c =
     let layout = g.L.CellLayout.layout in
-    let lay = g.met.L.CellLayout.faithful in
-    let keeps = cut_keeps layout lay c.args.self.now.front c.args.keep _ c.end_of-self.ensures in
+    let faithful = g.met.L.CellLayout.faithful in
+    let keeps = cut_keeps layout faithful c.args.self.now.front c.args.keep _ c.end_of-self.ensures in
     record { front = keeps (omega (arith, c.if-keep-self.false)) }
 
 pub returns-clause-after : goal.returns-clause-after
 returns-clause-after g c =
     let layout = g.L.CellLayout.layout in
-    let lay = g.met.L.CellLayout.faithful in
-    cut_reads layout lay c.args.self.now.front c.args.keep _ c.end_of-self.ensures
+    let faithful = g.met.L.CellLayout.faithful in
+    cut_reads layout faithful c.args.self.now.front c.args.keep _ c.end_of-self.ensures

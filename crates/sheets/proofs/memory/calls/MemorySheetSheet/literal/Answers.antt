@@ -44,8 +44,8 @@ returns g c =
     let d = of_literals [] in
     let k : c.args.i - 1 < length cs = omega (arith, s.front.shows.counted) in
     let layout = g.L.CellLayout.layout in
-    let lay = g.met.L.CellLayout.faithful in
+    let faithful = g.met.L.CellLayout.faithful in
     let ends = its_end g (goal.at.returns g c).After-end_of-to in
-    let part = part_is layout lay s.front (c.args.i - 1) _ _ d (omega arith) c.end_of-from.ensures ends in
+    let part = part_is layout faithful s.front (c.args.i - 1) _ _ d (omega arith) c.end_of-from.ensures ends in
     c.literal_in.ensures (get_or cs (c.args.i - 1) d) part (formed_clause cs (c.args.i - 1) d s.front.shows.formed k)
     ∙ clause_is cs c.args.i c.args.j d (omega arith) (omega (arith, s.front.shows.counted))

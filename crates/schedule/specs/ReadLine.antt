@@ -1,4 +1,4 @@
--- The line that a record of one holds.
+-- Which line was read.
 use Rattle.std.specs.Prelude.{take}
 use Rattle.pb.specs.Lines.{Line}
 use Rattle.schedule.specs.declared.line.ReadLine.{ReadLine}
