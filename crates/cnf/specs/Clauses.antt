@@ -1,5 +1,5 @@
 -- What a clause is and when an assignment satisfies it, which clauses are well-formed, and which variables they name.
-use Rattle.std.specs.Prelude.{ℕ, zero, suc, Bool, true, false, ◌&&◌, ◌||◌, List, [], ◌∷◌, length, ℤ, Some, None}
+use Rattle.std.specs.Prelude.{◌≡◌, ℕ, zero, suc, Bool, true, false, ◌&&◌, ◌||◌, List, [], ◌∷◌, length, ℤ, Some, None}
 use Rattle.std.specs.Prelude.{Option, nat_le, nat_lt, unsigned_abs}
 use Rattle.std.specs.List.{slice_get}
 use Rattle.pb.specs.Meaning.{Assignment, holds}
@@ -38,6 +38,11 @@ well_formed c = nat_le (length c.literals) MOST_LITERALS && literals_formed c.li
 abbrev pub all_well_formed : List Clause → Bool
 all_well_formed [] = true
 all_well_formed (c ∷ cs) = well_formed c && all_well_formed cs
+
+-- how far that is
+pub record ClauseLimits : Type 0 where
+  pub literals : MOST_LITERALS ≡ 256
+  pub numbers : LAST_NUMBER ≡ 60000
 
 -- whether every variable that literals or clauses name passes a test
 abbrev pub literals_within : (ℕ → Bool) → List ℤ → Bool

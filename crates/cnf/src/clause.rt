@@ -1,6 +1,6 @@
 // A clause is a slice of literals: v, that variable v is true, or -v, that it is false.
 ghost use Rattle.std.specs.Prelude.{◌≡◌, true, is_some, IfSome};
-ghost use Rattle.cnf.specs.Clauses.{of_literals, literal_formed, well_formed};
+ghost use Rattle.cnf.specs.Clauses.{of_literals, literal_formed, well_formed, ClauseLimits};
 
 /// The most literals that a clause may have.
 pub const MOST_LITERALS: usize = 256;
@@ -37,6 +37,7 @@ impl<'a> FormedClause<'a> {
     pub fn new(literals: &'a [i32]) -> Option<FormedClause<'a>>
         ensures formed { is_some result ≡ well_formed (of_literals literals.now) }
         ensures same { IfSome result (λ clause. clause_in clause ≡ of_literals literals.now) }
+        ensures limits { ClauseLimits }
     {
         if !is_well_formed(literals) {
             return None;

@@ -6,10 +6,12 @@ mod LeastSets
 mod LeastLists
 mod DirectNaming
 pub mod Directing
+pub mod DirectCases
 mod OrderNaming
 mod Matrix
 mod Places
 pub mod Ordering
+pub mod OrderCases
 pub mod Modelling
 pub mod Choosing
 pub mod Wholes

@@ -54,3 +54,6 @@ pub record OrderWorkedCases : Type 0 where
   pub a_column_more : order_reach (of_ones AtLeast 64 257) ≡ false
   pub exactly_has_one_more : order_reach (of_ones Exactly 64 256) ≡ false
   pub a_term_more : order_reach (of_ones AtLeast 65 256) ≡ false
+  -- 1·1 at least 16,384 takes as many auxiliaries as are in reach, and exactly 16,384 one more
+  pub most_of_one_term : order_reach (of_ones AtLeast 1 16384) ≡ true
+  pub one_more : order_reach (of_ones Exactly 1 16384) ≡ false

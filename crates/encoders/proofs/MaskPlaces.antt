@@ -1,71 +1,53 @@
 -- Each recursion over the terms of a set by halving its mask, at a place of the terms.
-use Rattle.std.proofs.Common.{◌≡◌, ℕ, ◌+◌, ◌-◌, ◌/◌, ◌^◌, ◌<◌, Bool, true, false, cond, not, ◌&&◌, nat_le, List, []}
+use Rattle.std.proofs.Common.{◌≡◌, ℕ, suc, ◌+◌, ◌-◌, ◌/◌, ◌^◌, ◌<◌, Bool, true, cond, ◌&&◌, nat_le, List, []}
 use Rattle.std.proofs.Common.{◌∷◌, ◌++◌, length, drop, get_or, sym, refl, ap, ap₂, ◌∙◌, add-one, arith, sum_by}
-use Rattle.std.proofs.Common.{filter}
-use Rattle.std.specs.List.{enumerate_from, list_all}
+use Rattle.std.specs.List.{scan, list_all}
 use Rattle.std.proofs.Math.Nat.{div-div-eq-div-mul, pow-suc}
 use Rattle.std.proofs.lemmas.List.{at_drop_more}
 use Rattle.std.proofs.lemmas.List.Sums.{sum_by-cons}
 use Rattle.std.proofs.lemmas.Bool.Decides.{nat_tests}
 use Rattle.pb.specs.declared.working.WorkingTerm.{WorkingTerm}
-use Rattle.encode.specs.Direct.{sum_outside, each_lifts, literal_by, literals_in}
+use Rattle.encode.specs.Direct.{has_first, sum_outside, each_lifts, literal_by, literals_in}
 use Rattle.encoders.specs.Masks.{is_in_set}
-
--- a term with its place, and its weight
-abbrev pub Placed : Type 0
-Placed = ℕ × WorkingTerm
-
-abbrev pub weight_at : Placed → ℕ
-weight_at p = p.1.weight
 
 -- the mask of the places from one on
 pub mask_next : (mask k : ℕ) → mask / 2 ^ (k + 1) ≡ mask / 2 ^ k / 2
 mask_next mask k = rw (add-one, pow-suc) (sym (div-div-eq-div-mul mask (2 ^ k) 2))
 
-picked_sum : (b : Bool) (p : Placed) (ps : List Placed)
-    → sum_by weight_at (cond (not b) (p ∷ ps) ps) ≡ cond b 0 (weight_at p) + sum_by weight_at ps
-picked_sum true p ps = omega arith
-picked_sum false p ps = sum_by-cons weight_at p ps
+-- the mask of the terms after one
+abbrev pub mask_after : ℕ → WorkingTerm → ℕ
+mask_after mask t = mask / 2
 
--- the weights of the places outside a set
-abbrev pub is_placed_outside : ℕ → Placed → Bool
-is_placed_outside mask p = not (is_in_set mask p.0)
+-- what the first term counts outside a set
+abbrev pub weight_outside : ℕ → WorkingTerm → ℕ
+weight_outside mask t = cond (has_first mask) 0 t.weight
 
-pub outside_from : (mask k : ℕ) (ts : List WorkingTerm)
-    → sum_by weight_at (filter (is_placed_outside mask) (enumerate_from k ts)) ≡ sum_outside ts (mask / 2 ^ k)
-outside_from mask k [] = refl
-outside_from mask k (t ∷ ts) =
-    picked_sum (is_in_set mask k) (k, t) (filter (is_placed_outside mask) (enumerate_from (k + 1) ts))
-    ∙ ap (λ n. cond (is_in_set mask k) 0 t.weight + n)
-    (outside_from mask (k + 1) ts ∙ ap (sum_outside ts) (mask_next mask k))
+-- there is one for each term
+pub one_each : {B : Type 0} (out : ℕ → WorkingTerm → B) (mask : ℕ) (ts : List WorkingTerm)
+    → length (scan mask_after out mask ts) ≡ length ts
+one_each out mask [] = refl
+one_each out mask (t ∷ ts) = ap (λ n. suc n) (one_each out (mask / 2) ts)
 
-picked_all : (g : Placed → Bool) (b : Bool) (p : Placed) (ps : List Placed)
-    → list_all g (cond b (p ∷ ps) ps) ≡ (cond b (g p) true && list_all g ps)
-picked_all g true p ps = refl
-picked_all g false p ps = refl
+pub outside_from : (mask : ℕ) (ts : List WorkingTerm)
+    → sum_by (λ n. n) (scan mask_after weight_outside mask ts) ≡ sum_outside ts mask
+outside_from mask [] = refl
+outside_from mask (t ∷ ts) =
+    sum_by-cons (λ n. n) (weight_outside mask t) (scan mask_after weight_outside (mask / 2) ts)
+    ∙ ap (λ n. weight_outside mask t + n) (outside_from (mask / 2) ts)
 
 -- a weight makes up what is missing where it brings the sum to the bound
 makes_up : (w sum bound : ℕ) → nat_le (bound - sum) w ≡ nat_le bound (sum + w)
 makes_up w sum bound = grind (arith, nat_tests)
 
--- whether each weight at the places of a set does
-abbrev pub is_placed_in : ℕ → Placed → Bool
-is_placed_in mask p = is_in_set mask p.0
+-- whether the first term is outside a set or its weight makes up what is missing
+abbrev pub is_enough : ℕ → ℕ → WorkingTerm → Bool
+is_enough missing mask t = cond (has_first mask) (nat_le missing t.weight) true
 
-abbrev pub is_enough : ℕ → Placed → Bool
-is_enough missing p = nat_le missing (weight_at p)
-
-pub lifts_from : (mask sum bound k : ℕ) (ts : List WorkingTerm)
-    → list_all (is_enough (bound - sum)) (filter (is_placed_in mask) (enumerate_from k ts))
-    ≡ each_lifts ts (mask / 2 ^ k) sum bound
-lifts_from mask sum bound k [] = refl
-lifts_from mask sum bound k (t ∷ ts) =
-    let rest = filter (is_placed_in mask) (enumerate_from (k + 1) ts) in
-    let next = ap (λ m. each_lifts ts m sum bound) (mask_next mask k) in
-    picked_all (is_enough (bound - sum)) (is_in_set mask k) (k, t) rest
-    ∙ ap₂ (λ a b. cond (is_in_set mask k) a true && b)
-    (makes_up t.weight sum bound)
-    (lifts_from mask sum bound (k + 1) ts ∙ next)
+pub lifts_from : (sum bound mask : ℕ) (ts : List WorkingTerm)
+    → list_all (λ b. b) (scan mask_after (is_enough (bound - sum)) mask ts) ≡ each_lifts ts mask sum bound
+lifts_from sum bound mask [] = refl
+lifts_from sum bound mask (t ∷ ts) =
+    ap₂ (λ a b. cond (has_first mask) a true && b) (makes_up t.weight sum bound) (lifts_from sum bound (mask / 2) ts)
 
 -- the literals of the places of a set, from one on
 module _ (flip : Bool) (mask : ℕ) (ts : List WorkingTerm) (i : ℕ) (d : WorkingTerm) (h : i < length ts) where

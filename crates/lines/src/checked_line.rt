@@ -2,6 +2,7 @@
 ghost use Rattle.std.specs.Prelude.{◌<◌, ◌≡◌, ◌↔◌, length, Some, IsNone, IfNone, IfSome, MatchResult};
 ghost use Rattle.pb.specs.Checks.{line_check, PassesChecks};
 ghost use Rattle.pb.specs.Laws.{CheckIsExact, NormalIsNormal, NormalKeeps};
+ghost use Rattle.pb.specs.Limits.{LineLimits};
 ghost use Rattle.pb.specs.Lines.{entered_line};
 ghost use Rattle.pb.specs.Variables.{variable_count};
 ghost use Rattle.lines.specs.Forms.{Formed};
@@ -34,6 +35,7 @@ impl<'a> CheckedLine<'a> {
             (λ c. IsCheckedLine (variable_count variables) (entered_line line.entry) c)
             (λ e. line_check (variable_count variables) (entered_line line.entry) ≡ Some e) }
         ensures exact { CheckIsExact }
+        ensures limits { LineLimits }
     {
         check_size(line.bound, line.terms.len())?;
         check_terms(variables, line.terms)?;

@@ -1,14 +1,33 @@
 // Reads a schedule file from standard input, and prints its clauses, or why it was refused.
 #![tactic(auto)]
 
+ghost use Rattle.std.specs.Prelude.{◌≤◌, length, IfOk};
+
 use output::{MOST_INPUT, print};
 use std::io;
 use std::io::Read;
 
-// beside the other program's, since the input is read here: no library takes memory from the heap.
+// Fills the buffer from standard input, as far as that goes, and answers how many bytes there are.
+// a loop into an array, since a vector takes memory from the heap, and fails where there is none.
+fn read_input(rt: &HostRuntime, buffer: &mut [u8]) -> io::Result<usize>
+    ensures { IfOk result (λ n. n ≤ length buffer.old) }
+{
+    let mut input = rt.stdin();
+    let mut used = 0;
+    // each turn but the last brings a byte at least
+    for _ in 0..buffer.len() {
+        let n = input.read(&mut buffer[used..])?;
+        if n == 0 {
+            break;
+        }
+        used += n;
+    }
+    Ok(used)
+}
+
 fn main(rt: HostRuntime) -> io::Result<()> {
-    let mut file = Vec::new(rt.alloc());
     // more is not looked at
-    let _ = rt.stdin().take(MOST_INPUT as u64).read_to_end(&mut file)?;
-    print(&rt, file.as_slice())
+    let mut file = [0; MOST_INPUT];
+    let size = read_input(&rt, &mut file)?;
+    print(&rt, &file[..size])
 }

@@ -1,6 +1,7 @@
 pub mod Variables
 pub mod Lines
 pub mod Checks
+pub mod Limits
 pub mod Normal
 pub mod Meaning
 pub mod Sums

@@ -10,6 +10,7 @@ use encoders::direct::Direct;
 use encoders::order::Order;
 use pb::working::Sense::{AtLeast, Exactly};
 use pb::working::{Sense, WorkingLine, WorkingTerm};
+use sheets::ceiling::Ceiling;
 use sheets::finished::finish;
 use sheets::flat::FlatSheet;
 use sheets::text::TextSheet;
@@ -132,6 +133,21 @@ fn a_refused_line_leaves_the_sheet(rt: HostRuntime) {
     );
     assert_eq!(rt; sheet.count(), 1);
     assert_eq!(rt; sheet.literal(1, 1), Some(9));
+}
+
+#[test]
+fn a_line_that_fits_in_part_leaves_the_text(rt: HostRuntime) {
+    let terms = [on(1, 1), on(2, 2), on(3, 3)];
+    let mut bytes = [0; 64];
+    let mut text = TextSheet::new(&mut bytes);
+    let mut sheet = Ceiling::new(&mut text, 3);
+    assert_eq!(rt; sheet.give(&[9]), Ok(1));
+    // of its three clauses there is room for two
+    assert_eq!(rt;
+        Direct::new().encode(line(Exactly, 4, &terms), 4, &mut sheet),
+        Err(EncodeFault::Sheet(refused(SheetCause::Full, 1)))
+    );
+    assert_eq!(rt; finish(text).bytes(), b"9 0\n".as_slice());
 }
 
 #[test]

@@ -91,40 +91,44 @@ whole_read : (r : FileRead) (s : Schedule) (fault : Option FileFault)
 whole_read r s None h = (refl, cc)
 whole_read r s (Some e) h = cc
 
-read_as : (r : FileRead) (ls : List Line) (s : Schedule) → AllEntered MOST_LINES 0 MOST_BOOK_TERMS r.lines r.fault ls
-    → record { variables = r.variables; lines = ls } ≡ s → (schedule_read r ≡ Ok s) × HasRoom s
-read_as r ls s all is =
+read_as : (most free : ℕ) (r : FileRead) (ls : List Line) (s : Schedule) → AllEntered most 0 free r.lines r.fault ls
+    → record { variables = r.variables; lines = ls } ≡ s → (schedule_read r ≡ Ok s) × HasRoom most free s
+read_as most free r ls s all is =
     let read = ap (schedule_unless (record { variables = r.variables; lines = lines_of r.lines })) all.no_fault
     ∙ ap (λ ms. Ok (record { variables = r.variables; lines = ms })) all.same in
-    subst (λ t. (schedule_read r ≡ Ok t) × HasRoom t) is
-    (read, record { lines_fit = all.lines_fit; terms_fit = all.terms_fit })
+    subst (λ t. (schedule_read r ≡ Ok t) × HasRoom most free t) is
+    (read, record { lines_fit = omega (arith, all.lines_fit); terms_fit = all.terms_fit })
 
-entered_as : (r : FileRead) (s : Schedule)
+entered_as : (most free : ℕ) (r : FileRead) (s : Schedule)
     → (r.fault ≡ None) × (record { variables = r.variables; lines = lines_of r.lines } ≡ s)
-    → HasRoom s → enter_schedule MOST_LINES MOST_BOOK_TERMS r ≡ Ok s
-entered_as r s whole room =
-    let fits = subst HasRoom (sym whole.1) room in
+    → HasRoom most free s → enter_schedule most free r ≡ Ok s
+entered_as most free r s whole room =
+    let fits = subst (HasRoom most free) (sym whole.1) room in
     let many = length-map r.lines (λ (p : PlacedLine). p.line) in
     let l = fits.lines_fit in
-    let all = fitting_entered MOST_LINES 0 MOST_BOOK_TERMS r.lines (omega arith) fits.terms_fit in
+    let all = fitting_entered most 0 free r.lines (omega arith) fits.terms_fit in
     let done : List Line → Result Schedule FileFault = λ ls. Ok (record { variables = r.variables; lines = ls }) in
-    ap (λ f. enter_placed MOST_LINES 0 MOST_BOOK_TERMS r.lines f >>= done) whole.0 ∙ ap (λ o. o >>= done) all
+    ap (λ f. enter_placed most 0 free r.lines f >>= done) whole.0 ∙ ap (λ o. o >>= done) all
     ∙ ap Ok whole.1
 
-entered_is_read : (input : List ℕ) (s : Schedule) → enter_file input ≡ Ok s
-    → (read_schedule input ≡ Ok s) × HasRoom s
-entered_is_read input s h =
+entered_is_read : (most free : ℕ) (input : List ℕ) (s : Schedule) → enter_schedule most free (read_file input) ≡ Ok s
+    → (read_schedule input ≡ Ok s) × HasRoom most free s
+entered_is_read most free input s h =
     let r = read_file input in
-    let p = bind_ok (enter_placed MOST_LINES 0 MOST_BOOK_TERMS r.lines r.fault) _ s h in
-    read_as r p.0 s (all_entered MOST_LINES 0 MOST_BOOK_TERMS r.lines r.fault p.0 p.1) cc
+    let p = bind_ok (enter_placed most 0 free r.lines r.fault) _ s h in
+    read_as most free r p.0 s (all_entered most 0 free r.lines r.fault p.0 p.1) cc
 
-read_is_entered : (input : List ℕ) (s : Schedule) → read_schedule input ≡ Ok s → HasRoom s → enter_file input ≡ Ok s
-read_is_entered input s h room = entered_as (read_file input) s (whole_read (read_file input) s _ h) room
+read_is_entered : (most free : ℕ) (input : List ℕ) (s : Schedule) → read_schedule input ≡ Ok s → HasRoom most free s
+    → enter_schedule most free (read_file input) ≡ Ok s
+read_is_entered most free input s h room =
+    entered_as most free (read_file input) s (whole_read (read_file input) s _ h) room
 
 pub enters_what_fits : EntersWhatFits
-enters_what_fits input s = (entered_is_read input s, λ p. read_is_entered input s p.0 p.1)
+enters_what_fits most free input s =
+    (entered_is_read most free input s, λ p. read_is_entered most free input s p.0 p.1)
 
 -- and the file of such a schedule is read as it
-pub enters_file : (input : List ℕ) (s : Schedule) → IsWithinLimits s → HasRoom s → input ≡ file_of s
-    → enter_file input ≡ Ok s
-enters_file input s within room is = read_is_entered input s (ap read_schedule is ∙ (reads_back s within).0) room
+pub enters_file : (input : List ℕ) (s : Schedule) → IsWithinLimits s → HasRoom MOST_LINES MOST_BOOK_TERMS s
+    → input ≡ file_of s → enter_file input ≡ Ok s
+enters_file input s within room is =
+    read_is_entered MOST_LINES MOST_BOOK_TERMS input s (ap read_schedule is ∙ (reads_back s within).0) room

@@ -19,6 +19,7 @@ use Rattle.pb.specs.Lines.{Line}
 use Rattle.schedule.specs.Reading.{◌>>=◌, Schedule}
 use Rattle.schedule.specs.Writing.{IsWithinLimits}
 use Rattle.schedule.proofs.LinesPass.{reads_within}
+use Rattle.translate.specs.declared.taking.TheConstants.{MOST_LINES, MOST_BOOK_TERMS}
 use Rattle.translate.specs.Books.{enter_file}
 use Rattle.pb.specs.Tightened.{working_form}
 use Rattle.translate.specs.Translation.{Progress, advanced, write_with, write_by, lines_with}
@@ -29,7 +30,7 @@ use Rattle.pb.proofs.Forms.{forms_keep}
 
 -- what was entered was read, and so is within the limits
 pub entered_within : (input : List ℕ) (s : Schedule) → enter_file input ≡ Ok s → IsWithinLimits s
-entered_within input s h = reads_within input s ((enters_what_fits input s).0 h).0
+entered_within input s h = reads_within input s ((enters_what_fits MOST_LINES MOST_BOOK_TERMS input s).0 h).0
 
 -- a line in its working form is written as a whole, and then what is held fits
 cond_same : {X : Type 0} (b : Bool) (x y z : X) → (b ≡ true → x ≡ y) → cond b x z ≡ cond b y z

@@ -37,12 +37,17 @@ enter_schedule lines terms r = do
 abbrev pub enter_file : List ℕ → Result Schedule FileFault
 enter_file input = enter_schedule MOST_LINES MOST_BOOK_TERMS (read_file input)
 
--- that book has room for the lines
-pub record HasRoom (s : Schedule) : Type 0 where
-  pub lines_fit : length s.lines ≤ MOST_LINES
-  pub terms_fit : sum_by (λ l. length l.terms) s.lines ≤ MOST_BOOK_TERMS
+-- how much that book holds
+pub record BookLimits : Type 0 where
+  pub lines : MOST_LINES ≡ 24
+  pub terms : MOST_BOOK_TERMS ≡ 512
 
--- what is entered is just what is read as a schedule that there is room for
+-- a book of so many lines and terms has room for the lines
+pub record HasRoom (lines terms : ℕ) (s : Schedule) : Type 0 where
+  pub lines_fit : length s.lines ≤ lines
+  pub terms_fit : sum_by (λ l. length l.terms) s.lines ≤ terms
+
+-- whatever the book holds, what is entered is just what is read as a schedule that there is room for
 abbrev pub EntersWhatFits : Type 0
-EntersWhatFits = (input : List ℕ) (s : Schedule)
-    → (enter_file input ≡ Ok s) ↔ ((read_schedule input ≡ Ok s) × HasRoom s)
+EntersWhatFits = (lines terms : ℕ) (input : List ℕ) (s : Schedule)
+    → (enter_schedule lines terms (read_file input) ≡ Ok s) ↔ ((read_schedule input ≡ Ok s) × HasRoom lines terms s)

@@ -20,6 +20,7 @@ use Rattle.schedule.specs.Reading.{◌>>=◌, Schedule}
 use Rattle.schedule.specs.Writing.{file_of, IsWithinLimits}
 use Rattle.translate.specs.Books.{HasRoom, enter_file}
 use Rattle.translate.specs.declared.header.Header.{Header}
+use Rattle.translate.specs.declared.taking.TheConstants.{MOST_LINES, MOST_BOOK_TERMS}
 
 -- lines of few terms go to the direct encoder, and the others to the order encoder
 abbrev pub encoding : Encoding
@@ -91,5 +92,6 @@ pub record Undone (e : Encoding) (fits : Rule) (input : List ℕ) (cs ds : List 
 
 -- the file of a schedule gives the clauses of just that schedule
 abbrev pub OfSchedules : Encoding → Rule → List ℕ → List Clause → Type 0
-OfSchedules e fits input cs = (s : Schedule) → IsWithinLimits s → HasRoom s → input ≡ file_of s
+OfSchedules e fits input cs = (s : Schedule) → IsWithinLimits s → HasRoom MOST_LINES MOST_BOOK_TERMS s
+    → input ≡ file_of s
     → translation e fits cs input ≡ write_schedule e fits cs s

@@ -7,7 +7,7 @@ ghost use Rattle.encode.specs.Models.{ModelsExtend};
 ghost use Rattle.cnf.specs.Sheets.{SameSheet};
 ghost use Rattle.pb.specs.Laws.{FormsKeep};
 ghost use Rattle.schedule.specs.Place.{offset_of, rest_of};
-ghost use Rattle.translate.specs.Books.{EntersWhatFits};
+ghost use Rattle.translate.specs.Books.{EntersWhatFits, BookLimits};
 ghost use Rattle.translate.specs.Translation.{encoding, translation, Done, Undone, OfSchedules};
 ghost use Rattle.translate.specs.Streaming.{fresh, progress, coming, OnlyAppends};
 ghost use Rattle.translate.specs.Whole.{WholeLists};
@@ -91,6 +91,7 @@ pub fn translate_by<E: Encoder, S: Sheet>(
     ensures reads { OfSchedules (E.Encoder.meaning encoder.now) (S.Sheet.fits sheet.old) input.now
         (S.Sheet.held sheet.old) }
     ensures enters { EntersWhatFits }
+    ensures limits { BookLimits }
     ensures forms { FormsKeep }
     ensures models { ModelsExtend (E.Encoder.meaning encoder.now) }
     ensures whole { WholeLists (E.Encoder.meaning encoder.now) (S.Sheet.fits sheet.old) input.now
@@ -126,6 +127,7 @@ pub fn translate<S: Sheet>(input: &[u8], sheet: &mut S) -> Result<Header, Refusa
         (λ r. Undone encoding (S.Sheet.fits sheet.old) input.now (S.Sheet.held sheet.old) (S.Sheet.held sheet.new) r) }
     ensures reads { OfSchedules encoding (S.Sheet.fits sheet.old) input.now (S.Sheet.held sheet.old) }
     ensures enters { EntersWhatFits }
+    ensures limits { BookLimits }
     ensures forms { FormsKeep }
     ensures models { ModelsExtend encoding }
     ensures whole { WholeLists encoding (S.Sheet.fits sheet.old) input.now (S.Sheet.held sheet.old) }

@@ -1,8 +1,8 @@
 // Terms few enough to try every set of them, and their sets, by mask: the lowest bit stands for the first term.
-ghost use Rattle.std.specs.Prelude.{◌≡◌, ◌^◌, ◌≤◌, ◌↔◌, length, IsSome, IfSome};
+ghost use Rattle.std.specs.Prelude.{◌≡◌, ◌/◌, ◌^◌, ◌≤◌, ◌↔◌, length, IsSome, IfSome};
 ghost use Rattle.pb.specs.Sums.{weight_sum};
 ghost use Rattle.encode.specs.declared.reaches.TheConstants.{MOST_DIRECT_TERMS};
-ghost use Rattle.encode.specs.Direct.{sum_outside, each_lifts, is_least, literal_by, literals_in};
+ghost use Rattle.encode.specs.Direct.{has_first, sum_outside, each_lifts, is_least, literal_by, literals_in};
 ghost use Rattle.encoders.specs.Masks.{is_in_set};
 
 use arrayvec::ArrayVec;
@@ -57,9 +57,10 @@ impl<'a> ShortTerms<'a> {
     {
         self.terms
             .iter()
-            .enumerate()
-            .filter(|(place, _)| !is_in_set(mask, *place))
-            .map(|(_, t)| u64::from(t.weight))
+            .scan(mask, |rest, t| {
+                Some(if take_first(rest) { 0 } else { t.weight })
+            })
+            .map(|weight| u64::from(weight))
             .sum()
     }
 
@@ -70,9 +71,10 @@ impl<'a> ShortTerms<'a> {
         let missing = bound.saturating_sub(sum);
         self.terms
             .iter()
-            .enumerate()
-            .filter(|(place, _)| is_in_set(mask, *place))
-            .all(|(_, t)| missing <= u64::from(t.weight))
+            .scan(mask, |rest, t| {
+                Some(!take_first(rest) || missing <= u64::from(t.weight))
+            })
+            .all(|lifts| lifts)
     }
 
     // The literals of a set, or their complements.
@@ -88,6 +90,17 @@ impl<'a> ShortTerms<'a> {
         }
         literals
     }
+}
+
+// Takes the first place off a set, and answers whether it was in it. Going over all terms this is cheaper than to ask
+// for each place.
+fn take_first(mask: &mut u32) -> bool
+    ensures first { result ≡ has_first mask.old }
+    ensures rest { mask.new ≡ mask.old / 2 }
+{
+    let is_first = *mask % 2 == 1;
+    *mask /= 2;
+    is_first
 }
 
 // Whether the term at a place is in a set.

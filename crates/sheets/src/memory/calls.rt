@@ -94,7 +94,7 @@ impl<'a, L: CellLayout> Sheet for MemorySheet<'a, L> {
     }
 
     fn literal(&self, i: usize, j: usize) -> Option<i32> {
-        if i == 0 || i > self.count {
+        if i == 0 || j == 0 || i > self.count {
             return None;
         }
         let from = self.end_of(i - 1);
